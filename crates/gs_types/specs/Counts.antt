@@ -1,0 +1,6 @@
+-- Counts of faults.
+use Rattle.std.specs.Prelude.{ℕ, ◌+◌, ◌-◌, ◌^◌, ◌≤◌, min}
+
+-- the count rose, or stands at the last value of a `u64`
+abbrev pub Rises : ℕ → ℕ → Type 0
+Rises old new = min (old + 1) (2 ^ 64 - 1) ≤ new
