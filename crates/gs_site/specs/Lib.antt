@@ -1,1 +1,12 @@
+pub mod Desk
+pub mod Fits
+pub mod JobFacts
+pub mod Jobs
+pub mod Kit
+pub mod Lending
 pub mod Link
+pub mod Marks
+pub mod Memory
+pub mod Past
+pub mod Site
+pub mod Turns

@@ -1,8 +1,8 @@
 -- What the calls of a link do.
-use Rattle.std.specs.Prelude.{◌≡◌, ℕ, ◌≤◌, ◌==◌, List, ◌∷◌, Option, Some, None, IsSome, Result, Ok, Err, ⊤, if◌then◌else◌}
+use Rattle.std.specs.Prelude.{◌≡◌, ℕ, ◌==◌, ◌∷◌, Option, None, IsSome, Result, Ok, Err, ⊤, if◌then◌else◌}
 use Rattle.gs_types.specs.Job.{Meaning, Gives, Fit}
 use Rattle.gs_types.specs.Counts.{Rises}
-use Rattle.gs_types.specs.History.{History, started, refused, finished, failed, abandoned}
+use Rattle.gs_types.specs.History.{History, started, refused, finished, failed}
 use Rattle.gs_types.specs.declared.job.Job.{Job}
 use Rattle.gs_site.specs.declared.link.Event.{Event}
 use Rattle.gs_site.specs.declared.link.Event.TheVariants.{Finished, Failed}

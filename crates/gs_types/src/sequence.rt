@@ -66,6 +66,13 @@ impl<T> Sequence<T> {
         &self.items[i]
     }
 
+    /// The items as a vector, without a copy.
+    pub fn into_vec(self) -> Vec<T>
+        ensures { result.items ≡ self }
+    {
+        self.items
+    }
+
     /// All items.
     pub fn items(&self) -> &[T]
         ensures { result.now ≡ self.now }

@@ -1,0 +1,96 @@
+ghost use Rattle.std.specs.Prelude.{◌≡◌, [], ◌∷◌, OnOk, Some};
+
+use crate::{Disk, DiskErr, DiskName, MemDisk, Whole, is_disk_name, read_whole};
+use std::test::Fail;
+
+fn make<D: Disk>(disk: &mut D, name: &DiskName) -> Result<(), DiskErr>
+    ensures { D.tells → OnOk result ((D.state disk.new).folder name.now ≡ Some (97 ∷ 98 ∷ 99 ∷ [])) }
+{
+    disk.create(name)?;
+    disk.write(name, 0, b"abc")?;
+    disk.sync()?;
+    Ok(())
+}
+
+#[test]
+fn each_call_does_its_work(rt: HostRuntime) -> Result<(), Fail> {
+    let alloc = rt.alloc();
+    let mut disk = MemDisk::new(alloc);
+    let log = DiskName::of(b".gs.log");
+    let user = DiskName::of(b"a.txt");
+    assert!(rt; is_disk_name(b"a-b_c.9") && !is_disk_name(b"a b"));
+    make(&mut disk, &user)?;
+    disk.add(log.copy(), b"xy")?;
+    assert_eq!(rt; disk.calls(), 3);
+    let names = disk.names(alloc)?;
+    assert!(rt; names.len() == 2 && names[0] == log && names[1] == user);
+    let mut buf = [0u8; 4];
+    assert_eq!(rt; disk.read_into(&user, 1, &mut buf)?, 2);
+    assert_eq!(rt; buf, [98, 99, 0, 0]);
+    disk.remove(&user)?;
+    disk.remove(&user)?;
+    assert_eq!(rt; disk.len(&user)?, None);
+    assert_eq!(rt; disk.len(&log)?, Some(2));
+    disk.create(&log)?;
+    assert!(rt; disk.get(&log) == Some(b"") && disk.get(&user) == None);
+    assert_eq!(rt; disk.calls(), 10);
+    Ok(())
+}
+
+#[test]
+fn a_listed_call_fails_and_does_nothing(rt: HostRuntime) -> Result<(), Fail> {
+    let alloc = rt.alloc();
+    let mut disk = MemDisk::new(alloc);
+    let name = DiskName::of(b"a");
+    make(&mut disk, &name)?;
+    disk.fail_at(vec![in alloc; 2, 4]?);
+    disk.sync()?;
+    assert_eq!(rt; disk.remove(&name), Err(DiskErr::Fault));
+    assert!(rt; disk.get(&name) == Some(b"abc"));
+    disk.remove(&name)?;
+    assert_eq!(rt; disk.create(&name), Err(DiskErr::Fault));
+    assert!(rt; disk.get(&name) == None);
+    disk.create(&name)?;
+    Ok(())
+}
+
+#[test]
+fn a_write_overwrites_and_lengthens(rt: HostRuntime) -> Result<(), Fail> {
+    let alloc = rt.alloc();
+    let mut disk = MemDisk::new(alloc);
+    let name = DiskName::of(b"a");
+    make(&mut disk, &name)?;
+    disk.write(&name, 1, b"X")?;
+    assert!(rt; disk.get(&name) == Some(b"aXc"));
+    disk.write(&name, 2, b"YZ")?;
+    assert!(rt; disk.get(&name) == Some(b"aXYZ"));
+    disk.write(&name, 4, b"!")?;
+    assert!(rt; disk.get(&name) == Some(b"aXYZ!"));
+    Ok(())
+}
+
+#[test]
+fn a_file_is_read_whole_up_to_the_limit(rt: HostRuntime) -> Result<(), Fail> {
+    let alloc = rt.alloc();
+    let mut disk = MemDisk::new(alloc);
+    let name = DiskName::of(b"a");
+    let mut into = vec![in alloc; 7u8]?;
+    assert_eq!(rt;
+        read_whole(alloc, &mut disk, &name, 9, &mut into)?,
+        Whole::Absent
+    );
+    disk.add(name.copy(), b"abc")?;
+    assert_eq!(rt;
+        read_whole(alloc, &mut disk, &name, 2, &mut into)?,
+        Whole::TooLong { len: 3 }
+    );
+    assert!(rt; into.as_slice() == [7].as_slice());
+    for limit in [3, 4] {
+        assert_eq!(rt;
+            read_whole(alloc, &mut disk, &name, limit, &mut into)?,
+            Whole::Read { len: 3 }
+        );
+        assert!(rt; into.as_slice() == b"abc".as_slice(), "at {limit}");
+    }
+    Ok(())
+}
