@@ -1,0 +1,210 @@
+-- What the tests of words, names and lists mean.
+use Rattle.std.proofs.Common.{◌≡◌, ℕ, zero, suc, ◌<◌, ◌≤◌, Bool, true, false, not, eqb, leb, List, [], ◌∷◌, length, get_or, refl, arith, inl, inr}
+use Rattle.std.specs.Prelude.{◌≢◌, ◌==◌, ◌&&◌, slice_index}
+use Rattle.std.specs.List.{All, AllPass, AllPairs, list_any, list_all}
+use Rattle.std.specs.Str.{bytes_eq}
+use Rattle.std.proofs.lemmas.Bool.{eqb-true, ne_eqb, leb-true, le-leb, and_parts, and_from, or_parts, or_from, cases_Bool}
+use Rattle.std.proofs.lemmas.Slice.Eq.{bytes_eq-Decides}
+use Rattle.std.proofs.lemmas.List.Sums.{AllPass-from_list_all, list_all-from_AllPass}
+use Rattle.std.proofs.lemmas.List.Folds.{list_any_none}
+use Rattle.std.proofs.lemmas.List.Elements.{All-nil, All-cons, All-weaker, All-from_get_or}
+use Rattle.gs_types.specs.Name.{is_name_byte, may_stand, GoesTo, IsName, IsBadAt}
+use Rattle.gs_form.specs.Ident.{is_letter, is_ident_byte, keywords, IsIdent}
+use Rattle.gs_form.specs.Format.{passes}
+use Rattle.gs_form.specs.Forms.{is_keyword, begins_with_letter, is_ident, begins_with_dot, is_name, apart, is_path_byte, is_path, IsPath}
+
+-- ---- tests
+
+pub not_true : (b : Bool) → not b ≡ true → b ≡ false
+not_true true e = absurd cc
+not_true false e = refl
+
+pub not_from : (b : Bool) → b ≡ false → not b ≡ true
+not_from b e = rw e refl
+
+pub differs_no : (a b : List ℕ) → bytes_eq a b ≡ false → a ≢ b
+differs_no a b e = λ is. let yes : bytes_eq a b ≡ true = (bytes_eq-Decides a b).1 is in absurd cc
+
+pub no_differs : (a b : List ℕ) → a ≢ b → bytes_eq a b ≡ false
+no_differs a b h =
+    elim (cases_Bool (bytes_eq a b)) [
+      | inl y ↦ absurd (h ((bytes_eq-Decides a b).0 y))
+      | inr n ↦ n
+    ]
+
+pub none_of : {A : Type 0} (p : A → Bool) (xs : List A) → list_any p xs ≡ false → All (λ x. p x ≡ false) xs
+none_of p [] e = All-nil (λ x. p x ≡ false)
+none_of p (x ∷ xs) e =
+    let both = or_parts (p x) (list_any p xs) e in
+    All-cons (λ x. p x ≡ false) x xs both.0 (none_of p xs both.1)
+
+-- ---- distinct items
+
+abbrev later : {A : Type 0} → (A → A → Bool) → A → List A → Type 0
+later clash x xs = All (λ y. clash x y ≡ false) xs
+
+pub apart_takes : {A : Type 0} (clash : A → A → Bool) (R : A → A → Type 0) → ((x y : A) → clash x y ≡ false → R x y) → (xs : List A) → apart clash xs ≡ true → AllPairs R xs
+apart_takes clash R there [] e i j d lt h = absurd (omega arith)
+apart_takes clash R there (x ∷ xs) e zero zero d lt h = absurd (omega arith)
+apart_takes clash R there (x ∷ xs) e zero (suc j) d lt h =
+    let both = and_parts (not (list_any (clash x) xs)) (apart clash xs) e in
+    there x (get_or xs j d) (none_of (clash x) xs (not_true (list_any (clash x) xs) both.0) j d (omega arith))
+apart_takes clash R there (x ∷ xs) e (suc i) zero d lt h = absurd (omega arith)
+apart_takes clash R there (x ∷ xs) e (suc i) (suc j) d lt h =
+    let both = and_parts (not (list_any (clash x) xs)) (apart clash xs) e in
+    apart_takes clash R there xs both.1 i j d (omega arith) (omega arith)
+
+pub apart_gives : {A : Type 0} (clash : A → A → Bool) (R : A → A → Type 0) → ((x y : A) → R x y → clash x y ≡ false) → (xs : List A) → AllPairs R xs → apart clash xs ≡ true
+apart_gives clash R back [] h = refl
+apart_gives clash R back (x ∷ xs) h =
+    and_from (not (list_any (clash x) xs)) (apart clash xs)
+    (not_from (list_any (clash x) xs) (list_any_none (clash x) xs (λ k d lt. back x (get_or xs k d) (h 0 (suc k) d (omega arith) (omega arith)))))
+    (apart_gives clash R back xs (λ i j d lt in'. h (suc i) (suc j) d (omega arith) (omega arith)))
+
+-- ---- identifiers
+
+letter_first : (w : List ℕ) → begins_with_letter w ≡ true → (1 ≤ length w) × (is_letter (slice_index w 0) ≡ true)
+letter_first [] e = absurd cc
+letter_first (b ∷ w) e = (omega arith, e)
+
+first_letter : (w : List ℕ) → 1 ≤ length w → is_letter (slice_index w 0) ≡ true → begins_with_letter w ≡ true
+first_letter [] h e = absurd (omega arith)
+first_letter (b ∷ w) h e = e
+
+keyword_free : (w : List ℕ) → is_keyword w ≡ false → All (λ k. w ≢ k) keywords
+unfolding is_keyword
+keyword_free w e = All-weaker (λ k. bytes_eq w k ≡ false) (λ k. w ≢ k) (λ k no. differs_no w k no) keywords (none_of (λ k. bytes_eq w k) keywords e)
+
+free_keyword : (w : List ℕ) → All (λ k. w ≢ k) keywords → is_keyword w ≡ false
+unfolding is_keyword
+free_keyword w h = list_any_none (λ k. bytes_eq w k) keywords (All-weaker (λ k. w ≢ k) (λ k. bytes_eq w k ≡ false) (λ k ne. no_differs w k ne) keywords h)
+
+pub ident_takes : (w : List ℕ) → is_ident w ≡ true → IsIdent w
+unfolding is_ident
+ident_takes w e =
+    let a = and_parts (begins_with_letter w) (leb (length w) 64 && (list_all is_ident_byte w && not (is_keyword w))) e in
+    let b = and_parts (leb (length w) 64) (list_all is_ident_byte w && not (is_keyword w)) a.1 in
+    let c = and_parts (list_all is_ident_byte w) (not (is_keyword w)) b.1 in
+    let f = letter_first w a.0 in
+    record {
+      some = f.0;
+      short = leb-true _ _ b.0;
+      first = f.1;
+      each = AllPass-from_list_all is_ident_byte w c.0;
+      free = keyword_free w (not_true (is_keyword w) c.1);
+    }
+
+pub ident_gives : (w : List ℕ) → IsIdent w → is_ident w ≡ true
+unfolding is_ident
+ident_gives w h =
+    and_from (begins_with_letter w) _ (first_letter w h.some h.first)
+    (and_from (leb (length w) 64) _ (le-leb _ _ h.short)
+    (and_from (list_all is_ident_byte w) _ (list_all-from_AllPass is_ident_byte w h.each) (not_from (is_keyword w) (free_keyword w h.free))))
+
+-- ---- names
+
+standing : (at b : ℕ) → may_stand at b ≡ true → is_name_byte b ≡ true
+standing at b e = (and_parts (is_name_byte b) (not (eqb at 0 && eqb b 46)) e).0
+
+no_dot : (w : List ℕ) → 1 ≤ length w → GoesTo w (length w) → begins_with_dot w ≡ false
+no_dot [] h g = absurd (omega arith)
+no_dot (b ∷ w) h g =
+    let first : may_stand 0 b ≡ true = g 0 (omega arith) in
+    not_true (eqb b 46) (and_parts (is_name_byte b) (not (eqb b 46)) first).1
+
+dot_first : (w : List ℕ) (k : ℕ) → k < length w → begins_with_dot w ≡ false → (eqb k 0 && eqb (slice_index w k) 46) ≡ false
+dot_first [] k lt e = absurd (omega arith)
+dot_first (b ∷ w) zero lt e = e
+dot_first (b ∷ w) (suc k) lt e = let n : eqb (suc k) 0 ≡ false = ne_eqb (suc k) 0 (λ is. absurd (omega arith)) in rw n refl
+
+pub name_takes : (w : List ℕ) → is_name w ≡ true → IsName w
+unfolding is_name
+name_takes w e =
+    let a = and_parts (leb 1 (length w)) (leb (length w) 200 && (list_all is_name_byte w && not (begins_with_dot w))) e in
+    let b = and_parts (leb (length w) 200) (list_all is_name_byte w && not (begins_with_dot w)) a.1 in
+    let c = and_parts (list_all is_name_byte w) (not (begins_with_dot w)) b.1 in
+    let each = AllPass-from_list_all is_name_byte w c.0 in
+    record {
+      some = leb-true _ _ a.0;
+      short = leb-true _ _ b.0;
+      allowed = λ k lt. and_from (is_name_byte (slice_index w k)) _ (each k 0 lt) (not_from (eqb k 0 && eqb (slice_index w k) 46) (dot_first w k lt (not_true (begins_with_dot w) c.1)));
+    }
+
+pub name_bytes : (w : List ℕ) → IsName w → AllPass is_name_byte w
+name_bytes w h = All-from_get_or (λ b. is_name_byte b ≡ true) w 0 (λ k lt. standing k (slice_index w k) (h.allowed k lt))
+
+pub name_gives : (w : List ℕ) → IsName w → is_name w ≡ true
+unfolding is_name
+name_gives w h =
+    and_from (leb 1 (length w)) _ (le-leb _ _ h.some)
+    (and_from (leb (length w) 200) _ (le-leb _ _ h.short)
+    (and_from (list_all is_name_byte w) _ (list_all-from_AllPass is_name_byte w (name_bytes w h)) (not_from (begins_with_dot w) (no_dot w h.some h.allowed))))
+
+bad_is_none : (w : List ℕ) (at : ℕ) → IsBadAt w at → IsName w → ⊥
+bad_is_none w at bad h =
+    elim bad.here [
+      | inl z ↦ let some = h.some in absurd (omega arith)
+      | inr (inl wrong) ↦ let ok = h.allowed at wrong.0 in let no = wrong.2 in absurd cc
+      | inr (inr long) ↦ let short = h.short in absurd (omega arith)
+    ]
+
+pub bad_name : (w : List ℕ) (at : ℕ) → IsBadAt w at → is_name w ≡ false
+bad_name w at bad =
+    elim (cases_Bool (is_name w)) [
+      | inl y ↦ absurd (bad_is_none w at bad (name_takes w y))
+      | inr n ↦ n
+    ]
+
+-- ---- paths
+
+path_byte_takes : (b : ℕ) → is_path_byte b ≡ true → (33 ≤ b) × (b ≤ 126) × (b ≢ 35)
+path_byte_takes b e =
+    let a = and_parts (leb 33 b) (leb b 126 && not (eqb b 35)) e in
+    let c = and_parts (leb b 126) (not (eqb b 35)) a.1 in
+    (leb-true _ _ a.0, leb-true _ _ c.0, λ is. let no : eqb b 35 ≡ false = not_true (eqb b 35) c.1 in let yes : eqb b 35 ≡ true = rw is refl in absurd cc)
+
+path_byte_gives : (b : ℕ) → (33 ≤ b) × (b ≤ 126) × (b ≢ 35) → is_path_byte b ≡ true
+path_byte_gives b h =
+    and_from (leb 33 b) _ (le-leb _ _ h.0)
+    (and_from (leb b 126) _ (le-leb _ _ h.1)
+    (elim (cases_Bool (eqb b 35)) [
+      | inl y ↦ absurd (h.2 (eqb-true _ _ y))
+      | inr n ↦ not_from (eqb b 35) n
+    ]))
+
+pub path_takes : (w : List ℕ) → is_path w ≡ true → IsPath w
+unfolding is_path
+path_takes w e =
+    let a = and_parts (leb 1 (length w)) (leb (length w) 200 && list_all is_path_byte w) e in
+    let b = and_parts (leb (length w) 200) (list_all is_path_byte w) a.1 in
+    record {
+      some = leb-true _ _ a.0;
+      short = leb-true _ _ b.0;
+      each = All-weaker (λ b. is_path_byte b ≡ true) (λ b. (33 ≤ b) × (b ≤ 126) × (b ≢ 35)) path_byte_takes w (AllPass-from_list_all is_path_byte w b.1);
+    }
+
+pub path_bytes : (w : List ℕ) → IsPath w → AllPass is_path_byte w
+path_bytes w h = All-weaker (λ b. (33 ≤ b) × (b ≤ 126) × (b ≢ 35)) (λ b. is_path_byte b ≡ true) path_byte_gives w h.each
+
+pub path_gives : (w : List ℕ) → IsPath w → is_path w ≡ true
+unfolding is_path
+path_gives w h =
+    and_from (leb 1 (length w)) _ (le-leb _ _ h.some)
+    (and_from (leb (length w) 200) _ (le-leb _ _ h.short) (list_all-from_AllPass is_path_byte w (path_bytes w h)))
+
+-- ---- words and their stops
+
+stop_fails : (ok : ℕ → Bool) (stops : List ℕ) (x : ℕ) → list_any ok stops ≡ false → ok x ≡ true → list_any (λ s. s == x) stops ≡ false
+stop_fails ok [] x h e = refl
+stop_fails ok (s ∷ ss) x h e =
+    let both = or_parts (ok s) (list_any ok ss) h in
+    or_from (eqb s x) _
+    (elim (cases_Bool (eqb s x)) [
+      | inl y ↦ let is : s ≡ x = eqb-true _ _ y in let t : ok s ≡ true = rw is e in let f = both.0 in absurd cc
+      | inr n ↦ n
+    ])
+    (stop_fails ok ss x both.1 e)
+
+-- a word of bytes that pass a test goes past stops that don't
+pub avoids : (ok : ℕ → Bool) (stops : List ℕ) → list_any ok stops ≡ false → (w : List ℕ) → AllPass ok w → AllPass (passes stops) w
+avoids ok stops h w each = All-weaker (λ x. ok x ≡ true) (λ x. passes stops x ≡ true) (λ x e. not_from (list_any (λ s. s == x) stops) (stop_fails ok stops x h e)) w each

@@ -1,0 +1,11 @@
+//! Worked examples of whole runs: over disks and links in memory, and over a real folder with real programs.
+#![tactic(auto)]
+
+#[cfg(test)]
+mod desk;
+#[cfg(test)]
+mod faults;
+#[cfg(test)]
+mod forms;
+#[cfg(test)]
+mod rows;

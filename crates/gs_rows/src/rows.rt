@@ -1,0 +1,120 @@
+// The rows of worked examples.
+use crate::desk::{IDL, LIST, PROGRAM, disk_of, is_one_task, name, run, run_files};
+use gs_site::{Past, Turn};
+use std::test::Fail;
+
+#[test]
+fn two_files_are_joined_into_a_third(rt: HostRuntime) -> Result<(), Fail> {
+    let alloc = rt.alloc();
+    let files: [(&[u8], &[u8]); 5] = [
+        (b"k.idl", IDL),
+        (b"p.c", PROGRAM),
+        (b"w.txt", LIST),
+        (b"A", b"a"),
+        (b"B", b"b"),
+    ];
+    let made = run_files(&rt, alloc, &files)?;
+    assert_eq!(rt; made.status, 0);
+    assert_eq!(rt; made.disk.get(&name(&rt, b"C")), Some(b"ab".as_slice()));
+    assert_eq!(rt; made.disk.get(&name(&rt, b"A")), Some(b"a".as_slice()));
+    assert!(rt; is_one_task(made.link.past()));
+    assert!(rt; made.err.bytes().is_empty());
+    assert!(rt; made.out.bytes().is_empty());
+    Ok(())
+}
+
+#[test]
+fn a_file_that_may_not_be_read_counts_against_the_program(rt: HostRuntime) -> Result<(), Fail> {
+    let alloc = rt.alloc();
+    let program = b"main() {\n    GS_On();\n    join(\"A\", \"X\", \"C\");\n    GS_Off(0);\n}\n";
+    let files: [(&[u8], &[u8]); 4] = [
+        (b"k.idl", IDL),
+        (b"p.c", program),
+        (b"w.txt", LIST),
+        (b"A", b"a"),
+    ];
+    let made = run_files(&rt, alloc, &files)?;
+    assert_eq!(rt; made.status, 4);
+    assert_eq!(rt;
+        made.err.bytes(),
+        b"gs: bad text: p.c:0: NotYet\n".as_slice()
+    );
+    assert_eq!(rt; made.disk.get(&name(&rt, b"C")), None);
+    assert!(rt; made.link.past().is_empty());
+    Ok(())
+}
+
+#[test]
+fn a_lost_task_leaves_the_files_as_they_were(rt: HostRuntime) -> Result<(), Fail> {
+    let alloc = rt.alloc();
+    let files: [(&[u8], &[u8]); 5] = [
+        (b"k.idl", IDL),
+        (b"p.c", PROGRAM),
+        (b"w.txt", LIST),
+        (b"A", b"a"),
+        (b"B", b"b"),
+    ];
+    let disk = disk_of(&rt, alloc, &files)?;
+    let mut script = Vec::new(alloc);
+    script.push(Turn {
+        pick: 0,
+        well: false,
+    })?;
+    let words = ["run", "k.idl", "p.c", "w.txt"];
+    let made = run(alloc, &words, disk, script, Vec::new(alloc))?;
+    assert_eq!(rt; made.status, 9);
+    assert_eq!(rt; made.err.bytes(), b"gs: task lost: 1\n".as_slice());
+    assert_eq!(rt; made.disk.get(&name(&rt, b"C")), None);
+    assert!(rt;
+        matches!(
+            made.link.past(),
+            [Past::Started { n: 1, worker: 0 }, Past::Failed { n: 1 }]
+        )
+    );
+    Ok(())
+}
+
+#[test]
+fn a_missing_word_and_a_missing_list_are_named(rt: HostRuntime) -> Result<(), Fail> {
+    let alloc = rt.alloc();
+    let empty = disk_of(&rt, alloc, &[])?;
+    let short = run(
+        alloc,
+        &["run", "k.idl", "p.c"],
+        empty,
+        Vec::new(alloc),
+        Vec::new(alloc),
+    )?;
+    assert_eq!(rt; short.status, 2);
+    assert_eq!(rt; short.err.bytes(), b"gs: usage: word 3\n".as_slice());
+    let files: [(&[u8], &[u8]); 2] = [(b"k.idl", IDL), (b"p.c", PROGRAM)];
+    let absent = run_files(&rt, alloc, &files)?;
+    assert_eq!(rt; absent.status, 3);
+    assert_eq!(rt; absent.err.bytes(), b"gs: no text: w.txt\n".as_slice());
+    Ok(())
+}
+
+#[test]
+fn each_wrong_word_is_named_by_its_place(rt: HostRuntime) -> Result<(), Fail> {
+    let alloc = rt.alloc();
+    let none: [&str; 0] = [];
+    let cases: [(&[&str], &[u8]); 7] = [
+        (&none, b"gs: usage: word 0\n"),
+        (&["walk", "k.idl", "p.c", "w.txt"], b"gs: usage: word 0\n"),
+        (&["run", ".k", "p.c", "w.txt"], b"gs: usage: word 1\n"),
+        (&["run", "k.idl", "p/c", "w.txt"], b"gs: usage: word 2\n"),
+        (&["run", "k.idl", "p.c", ""], b"gs: usage: word 3\n"),
+        (
+            &["run", "k.idl", "p.c", "w.txt", "x"],
+            b"gs: usage: word 4\n",
+        ),
+        (&["run"], b"gs: usage: word 1\n"),
+    ];
+    for (words, line) in cases {
+        let disk = disk_of(&rt, alloc, &[])?;
+        let made = run(alloc, words, disk, Vec::new(alloc), Vec::new(alloc))?;
+        assert_eq!(rt; made.status, 2);
+        assert_eq!(rt; made.err.bytes(), line);
+    }
+    Ok(())
+}

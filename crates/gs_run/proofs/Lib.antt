@@ -1,0 +1,11 @@
+pub mod Answering
+pub mod Carrying
+pub mod Changes
+pub mod Conclusions
+pub mod Gathering
+pub mod Giving
+pub mod Histories
+pub mod Names
+pub mod Reaching
+pub mod Verdicts
+pub mod Written

@@ -1,0 +1,14 @@
+pub mod Calls
+pub mod Carried
+pub mod Ending
+pub mod Faults
+pub mod Files
+pub mod Judging
+pub mod Names
+pub mod Outputs
+pub mod Ran
+pub mod Reading
+pub mod Served
+pub mod Stop
+pub mod Texts
+pub mod Words

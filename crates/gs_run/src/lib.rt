@@ -1,0 +1,19 @@
+//! The top call of `gs`: from the words of the command line to the files in the folder.
+#![tactic(auto)]
+
+mod arguments;
+mod carry;
+mod changed;
+mod files;
+mod judge;
+mod originals;
+mod run;
+mod stop;
+mod task;
+mod texts;
+mod words;
+mod writing;
+
+pub use files::Files;
+pub use run::gs;
+pub use stop::Stop;

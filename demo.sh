@@ -1,0 +1,17 @@
+#!/bin/sh
+# Proves and builds gs, runs the example study in a new folder, and shows what it left.
+set -e
+top=$(cd "$(dirname "$0")" && pwd)
+echo "== proving and building (some minutes on a fresh machine)"
+# without words the program answers with status 2, and stays built
+(cd "$top/crates/gs" && rt run) > "${TMPDIR:-/tmp}/gs-demo.log" 2>&1 || test $? -eq 2 || { tail -20 "${TMPDIR:-/tmp}/gs-demo.log"; exit 1; }
+gs="$top/crates/gs/out/gs"
+folder=$(mktemp -d)
+cp "$top"/examples/study/* "$folder"
+cd "$folder"
+echo "== gs run study.idl study.c workers.txt, in $folder"
+"$gs" run study.idl study.c workers.txt
+echo "== all.txt"
+cat all.txt
+echo "== the last job.tmp and res.tmp"
+cat job.tmp res.tmp
