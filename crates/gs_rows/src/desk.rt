@@ -91,3 +91,12 @@ pub fn is_one_task(past: &[Past]) -> bool {
         [Past::Started { n: 1, worker: 0 }, Past::Finished { n: 1 }]
     )
 }
+
+/// A file of the disk is present and reads like this.
+pub fn reads(rt: &impl Abort, disk: &MemDisk, file: &[u8], bytes: &[u8]) -> bool {
+    let file = name(rt, file);
+    match disk.get(&file) {
+        Some(found) => found == bytes,
+        None => false,
+    }
+}

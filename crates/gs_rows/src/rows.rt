@@ -1,5 +1,5 @@
 // The rows of worked examples.
-use crate::desk::{IDL, LIST, PROGRAM, disk_of, is_one_task, name, run, run_files};
+use crate::desk::{IDL, LIST, PROGRAM, disk_of, is_one_task, name, reads, run, run_files};
 use gs_site::{Past, Turn};
 use std::test::Fail;
 
@@ -15,8 +15,8 @@ fn two_files_are_joined_into_a_third(rt: HostRuntime) -> Result<(), Fail> {
     ];
     let made = run_files(&rt, alloc, &files)?;
     assert_eq!(rt; made.status, 0);
-    assert_eq!(rt; made.disk.get(&name(&rt, b"C")), Some(b"ab".as_slice()));
-    assert_eq!(rt; made.disk.get(&name(&rt, b"A")), Some(b"a".as_slice()));
+    assert!(rt; reads(&rt, &made.disk, b"C", b"ab"));
+    assert!(rt; reads(&rt, &made.disk, b"A", b"a"));
     assert!(rt; is_one_task(made.link.past()));
     assert!(rt; made.err.bytes().is_empty());
     assert!(rt; made.out.bytes().is_empty());

@@ -1,0 +1,77 @@
+#!/bin/sh
+# Runs the built gs over real folders with real programs, and compares status, standard output, standard error and
+# files byte by byte. Usage: sh checks/real.sh [the built program]
+top=$(cd "$(dirname "$0")/.." && pwd)
+gs=${1:-$top/crates/gs/out/gs}
+[ -x "$gs" ] || { echo "no built program at $gs: run 'rt run' in crates/gs first"; exit 2; }
+gs=$(cd "$(dirname "$gs")" && pwd)/$(basename "$gs")
+failed=0
+
+fresh() {
+    folder=$(mktemp -d)
+    cp "$top"/examples/join/* "$folder"
+    cd "$folder" || exit 2
+}
+
+# case NAME STATUS LINE WORDS..: the status, the line on standard error, nothing on standard output
+case_of() {
+    what=$1; want=$2; line=$3; shift 3
+    "$gs" "$@" > .out 2> .err
+    status=$?
+    printf '%s' "$line" > .want
+    if [ $status -ne "$want" ] || ! cmp -s .err .want || [ -s .out ]; then
+        echo "FAILED $what: status $status, wanted $want; standard error: $(cat .err)"
+        failed=1
+    else
+        echo "ok $what"
+    fi
+}
+
+# same NAME FILE TEXT: the file reads like this
+same() {
+    printf '%s' "$3" > .want
+    cmp -s "$2" .want || { echo "FAILED $1: $2 is '$(cat "$2" 2>&1)'"; failed=1; }
+}
+
+gone() {
+    [ ! -e "$2" ] || { echo "FAILED $1: $2 is there"; failed=1; }
+}
+
+run="run k.idl p.c w.txt"
+lf='
+'
+fresh; case_of "two files are joined" 0 "" $run; same joined C xy
+fresh; case_of "no words" 2 "gs: usage: word 0$lf"; gone usage C
+fresh; case_of "a word too few" 2 "gs: usage: word 3$lf" run k.idl p.c; gone usage C
+fresh; case_of "a name that begins with a dot" 2 "gs: usage: word 1$lf" run .k p.c w.txt
+fresh; rm k.idl; case_of "no IDL" 3 "gs: no text: k.idl$lf" $run; gone "no IDL" C
+fresh; rm w.txt; case_of "no worker list" 3 "gs: no text: w.txt$lf" $run; gone "no list" C
+fresh; printf ' ' >> p.c; case_of "a blank behind the program" 4 "gs: bad text: p.c:0: NotYet$lf" $run; gone blank C
+fresh; rm B; case_of "a file that can't be read" 4 "gs: bad text: p.c:0: NotYet$lf" $run; gone "no B" C
+fresh; printf 'exit 1\n' > join; printf old > C; case_of "a program that ends with 1" 9 "gs: task lost: 1$lf" $run; same "ends with 1" C old
+fresh; printf 'exit 0\n' > join; case_of "an output left out" 9 "gs: task lost: 1$lf" $run; gone "left out" C
+fresh; printf 'w1 2 ./absent *\n' > w.txt; case_of "a program that doesn't exist" 9 "gs: task lost: 1$lf" $run; gone absent C
+fresh; printf 'kill -9 $$\n' > join; case_of "a program that is killed" 9 "gs: task lost: 1$lf" $run; gone killed C
+fresh; mkdir C; case_of "a folder under the output's name" 10 "gs: disk fault$lf" $run; same disk A ""
+fresh; mkdir -p .gs.stage; printf stale > .gs.stage/1.3; printf 'exit 0\n' > join
+case_of "a stale staging file is no result" 9 "gs: task lost: 1$lf" $run; gone stale C
+
+# names with every byte that a name may have
+fresh
+odd=ABCDEFGHIJKLMNOPQRSTUVWXYZabcdefghijklmnopqrstuvwxyz0123456789._-
+printf 'odd' > "$odd"
+sed "s/\"A\"/\"$odd\"/; s/\"C\"/\"-$odd\"/" p.c > q && mv q p.c
+case_of "names with every byte" 0 "" $run; same odd "./-$odd" oddxy
+
+# an input of the limit's length, and one byte more
+fresh
+: > B
+head -c 16777216 /dev/urandom > A
+case_of "an input of 16,777,216 bytes" 0 "" $run
+cmp -s A C || { echo "FAILED the long input: C differs"; failed=1; }
+fresh
+head -c 16777217 /dev/zero > A
+case_of "an input of one byte more" 4 "gs: bad text: p.c:0: NotYet$lf" $run; gone long C
+
+[ $failed -eq 0 ] && echo "all ok"
+exit $failed
