@@ -8,4 +8,8 @@ mod faults;
 #[cfg(test)]
 mod forms;
 #[cfg(test)]
+mod real;
+#[cfg(test)]
 mod rows;
+#[cfg(test)]
+mod values;

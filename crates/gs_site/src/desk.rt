@@ -1,5 +1,5 @@
 // The jobs in flight of a link in memory, and what it did.
-ghost use Rattle.std.specs.Prelude.{◌≡◌, ◌<◌, ◌+◌, [], ◌∷◌, ◌++◌, length, Some, OnOk, OnErr, IsSome, option_copied, ◌≤◌, vec_len, vec_capacity};
+ghost use Rattle.std.specs.Prelude.{◌≡◌, ◌≤◌, ◌<◌, ◌+◌, [], ◌∷◌, ◌++◌, length, Some, OnOk, OnErr, IsSome, option_copied, vec_len, vec_capacity};
 ghost use Rattle.gs_types.specs.History.{started};
 ghost use Rattle.gs_site.specs.Past.{past_of, told_event, history_of, event_told, shown};
 ghost use Rattle.gs_site.specs.Jobs.{job_at, without, picked};

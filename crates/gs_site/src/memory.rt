@@ -1,10 +1,9 @@
 // A link in memory.
-ghost use Rattle.std.specs.Prelude.{◌≡◌, ◌<◌, ◌≤◌, ℕ, [], ◌∷◌, ◌++◌, drop, length, Some, None, IsSome, IfOk, OnOk, OnErr, IsErrOf};
+ghost use Rattle.std.specs.Prelude.{◌≡◌, ◌≤◌, [], ◌∷◌, ◌++◌, drop, length, Some, None, IfOk, OnOk, OnErr, IsErrOf};
 ghost use Rattle.gs_types.specs.Counts.{Rises};
 ghost use Rattle.gs_types.specs.History.{History, abandoned};
-ghost use Rattle.gs_types.specs.Job.{Gives, Meaning};
 ghost use Rattle.gs_types.specs.declared.job.Job.{Job};
-ghost use Rattle.gs_site.specs.Jobs.{job_at, without, picked};
+ghost use Rattle.gs_site.specs.Jobs.{without, picked};
 ghost use Rattle.gs_site.specs.Link.{IsIdle, IsBusy, SameJobs, SetsJob, after_start, task_of, after_event, Ended, IsByLaw};
 ghost use Rattle.gs_site.specs.Memory.{law_of, script_of, started_jobs, jobs_of, faults_of, IsTold, EndsBy, counted, MayGive};
 ghost use Rattle.gs_site.specs.Past.{shown};

@@ -1,5 +1,5 @@
 // The script of a link in memory.
-ghost use Rattle.std.specs.Prelude.{◌≡◌, ◌≤◌, length, drop};
+ghost use Rattle.std.specs.Prelude.{◌≡◌, drop};
 ghost use Rattle.gs_site.specs.Turns.{turn_now};
 
 /// How the next task ends: the job at place `pick` modulo the number of jobs, in the order of their

@@ -1,0 +1,5 @@
+main() {
+    GS_On();
+    join("A", "B", "C");
+    GS_Off(0);
+}

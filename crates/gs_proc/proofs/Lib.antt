@@ -1,0 +1,6 @@
+pub mod Digits
+pub mod Gives
+pub mod Lines
+pub mod Numbers
+pub mod TaskLists
+pub mod WordLists

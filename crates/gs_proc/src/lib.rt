@@ -1,0 +1,16 @@
+//! Tasks as child programs of this machine, which get their files in a staging folder.
+#![tactic(auto)]
+
+mod call;
+mod number;
+mod outs;
+mod proc_link;
+mod stage;
+mod tasks;
+#[cfg(test)]
+mod tests;
+mod trouble;
+mod wait;
+mod words;
+
+pub use proc_link::ProcLink;
