@@ -8,6 +8,8 @@ mod faults;
 #[cfg(test)]
 mod forms;
 #[cfg(test)]
+mod generated;
+#[cfg(test)]
 mod real;
 #[cfg(test)]
 mod rows;

@@ -118,3 +118,25 @@ fn each_wrong_word_is_named_by_its_place(rt: HostRuntime) -> Result<(), Fail> {
     }
     Ok(())
 }
+
+#[test]
+fn a_word_has_two_hundred_bytes_at_most(rt: HostRuntime) -> Result<(), Fail> {
+    let alloc = rt.alloc();
+    let ten = "abcdefghij";
+    let mut long = String::new(alloc);
+    for _ in 0..20 {
+        long.push_str(ten)?;
+    }
+    let words = ["run", long.as_str(), "p.c", "w.txt"];
+    let empty = disk_of(&rt, alloc, &[])?;
+    let absent = run(alloc, &words, empty, Vec::new(alloc), Vec::new(alloc))?;
+    assert_eq!(rt; absent.status, 3);
+    assert_eq!(rt; absent.err.bytes().len(), 13 + 200 + 1);
+    long.push_str("k")?;
+    let words = ["run", long.as_str(), "p.c", "w.txt"];
+    let empty = disk_of(&rt, alloc, &[])?;
+    let wrong = run(alloc, &words, empty, Vec::new(alloc), Vec::new(alloc))?;
+    assert_eq!(rt; wrong.status, 2);
+    assert_eq!(rt; wrong.err.bytes(), b"gs: usage: word 1\n".as_slice());
+    Ok(())
+}
