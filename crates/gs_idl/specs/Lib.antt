@@ -1,0 +1,10 @@
+pub mod Interface
+pub mod Word
+pub mod Lexicon
+pub mod Token
+pub mod Grammar
+pub mod Machine
+pub mod View
+pub mod Reading
+pub mod Laws
+pub mod Printed

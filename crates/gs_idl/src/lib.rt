@@ -1,0 +1,18 @@
+//! The interface text: which operations a program may call, and what each of them reads and writes.
+#![tactic(auto)]
+
+mod idl;
+mod keyword;
+pub mod laws;
+mod memory;
+mod printer;
+mod reader;
+#[cfg(test)]
+mod tests;
+mod token;
+
+pub use idl::{Dir, Idl, Kind};
+pub use memory::NoMemory;
+pub use printer::print;
+pub use reader::{IdlErr, read};
+pub use token::IdlKind;
