@@ -1,0 +1,7 @@
+pub mod ByteClasses
+pub mod Classes
+pub mod Lexing
+pub mod OneReading
+pub mod OneString
+pub mod Strings
+pub mod Texts

@@ -1,0 +1,15 @@
+pub mod Program
+pub mod View
+pub mod Sign
+pub mod Bytes
+pub mod Lexeme
+pub mod Quoted
+pub mod Lexicon
+pub mod Steps
+pub mod Found
+pub mod Words
+pub mod Signs
+pub mod Shown
+pub mod Cut
+pub mod Printed
+pub mod Unlined
