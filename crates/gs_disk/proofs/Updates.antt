@@ -109,3 +109,6 @@ kept m n name v w is entries same =
 
 pub none_written : (m : BTreeMap (List ℕ) (Vec ℕ Global) Global) (name : List ℕ) (P : List ℕ → Type 0) → None ≡ get (slice_cmp nat_cmp) m name → IfSome (folder_of (files_of m) name) P
 none_written m name P is = subst (λ (o : Option (List ℕ)). IfSome o P) (sym (absent m name is)) tt
+
+pub some_for : (m : BTreeMap (List ℕ) (Vec ℕ Global) Global) (name : List ℕ) (v : Vec ℕ Global) (P : List ℕ → Type 0) → Some v ≡ get (slice_cmp nat_cmp) m name → IfSome (folder_of (files_of m) name) P → P v.items
+some_for m name v P is there = subst (λ (o : Option (List ℕ)). IfSome o P) (stands m name v is) there

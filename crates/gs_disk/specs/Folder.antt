@@ -10,11 +10,20 @@ use Rattle.gs_disk.specs.declared.disk.DiskErr.TheVariants.{Fault, Memory}
 abbrev pub Folder : Type 0
 Folder = List ℕ → Option (List ℕ)
 
--- a disk as clauses see it: the folder as it reads, and how many faults and memory refusals it had
-pub record DiskState : Type 0 where
+-- a disk as clauses see it: the folder as it reads, what a crash may leave, and how many faults and memory refusals it
+-- had
+pub record DiskState : Type 1 where
   pub folder : Folder
+  -- a number that doesn't fall
+  pub moment : ℕ
+  -- what a crash at some moment from that one on might have left
+  pub left_since : ℕ → Folder → Type 0
   pub faults : ℕ
   pub refusals : ℕ
+
+-- nothing was changed
+pub record Same (old new : Folder) : Type 0 where
+  pub is : new ≡ old
 
 -- none of these names
 abbrev pub Outside : List (List ℕ) → List ℕ → Type 0

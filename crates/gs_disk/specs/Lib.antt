@@ -1,5 +1,10 @@
 pub mod Counts
+pub mod Crash
 pub mod Folder
+pub mod Going
+pub mod Images
 pub mod Mem
+pub mod Moments
 pub mod Name
+pub mod Steps
 pub mod Whole

@@ -1,68 +1,129 @@
 // A disk in memory.
-ghost use Rattle.std.specs.Prelude.{◌≡◌, ◌≤◌, ◌↔◌, ℕ, List, [], ◌∷◌, length, None, Some, IfOk, IfSome, IsSome, OnOk, OnErr, IsErrOf, option_map, option_copied};
-ghost use Rattle.gs_disk.specs.Folder.{KeepsOthers, Tears, overwritten, MayWrite, HasCause, IsRead, Rise, Has};
-ghost use Rattle.gs_disk.specs.Counts.{up};
-ghost use Rattle.gs_disk.specs.Mem.{folder_of, as_disk, fresh, fails_next, counted, IsCall};
+ghost use Rattle.std.specs.Prelude.{◌≡◌, ◌≤◌, ◌↔◌, ◌⊎◌, ℕ, List, [], ◌∷◌, length, None, Some, IfOk, IfSome, IsSome, OnOk, OnErr, IsErrOf, option_map, option_copied};
+ghost use Rattle.gs_disk.specs.Folder.{KeepsOthers, Tears, Same, overwritten, MayWrite, HasCause, IsRead, Rise, Has};
+ghost use Rattle.gs_disk.specs.Moments.{LeavesOnly, Passes, Remembers};
+ghost use Rattle.gs_disk.specs.Mem.{files_of, folder_of, unsynced, as_disk, fresh, IsCall};
+ghost use Rattle.gs_disk.specs.Images.{IsImage};
+ghost use Rattle.gs_disk.specs.Crash.{IsKept};
 ghost use Rattle.gs_disk.specs.declared.disk.DiskErr.TheVariants.{Fault, Memory};
+ghost use Rattle.gs_disk.specs.declared.now.Past.TheVariants.{Then};
 
-use crate::{Disk, DiskErr, DiskName, files};
+use crate::calls::Calls;
+use crate::now::{Now, Past};
+use crate::{Disk, DiskErr, DiskName, Keep, crash, files, steps};
 use std::alloc::Global;
 use std::collections::BTreeMap;
 use std::marker::Model;
+use std::mem;
+use std::snapshot::Snapshot;
 
-/// A folder in memory, with calls that are to fail.
+/// A folder in memory, with calls that are to fail, and with what a crash may leave of it.
 #[derive(Drop)]
 pub struct MemDisk {
     alloc: Global,
-    files: BTreeMap<DiskName, Vec<u8>>,
-    // the numbers of the calls that are to fail
-    failing: Vec<u64>,
-    // the calls since those were given
-    asked: u64,
-    // the calls since the disk was made
-    calls: u64,
-    faults: u64,
-    refusals: u64,
+    held: Now,
+    // what it held before each call that might change it, for proofs alone
+    past: Snapshot<Past>,
+    calls: Calls,
 }
 
 impl Model for MemDisk {
-    ghost use Rattle.gs_disk.specs.Mem.{MemState, files_of};
+    ghost use Rattle.gs_disk.specs.Mem.{MemState, files_of, names_of, ranges_of, behind};
+    ghost use Rattle.gs_disk.specs.Steps.{IsSound};
 
     ghost Value = { MemState };
 
-    ghost view = { λ m. record { files = files_of m.files; failing = m.failing.items; asked = m.asked; calls = m.calls; faults = m.faults; refusals = m.refusals } };
+    ghost view = { λ m. record {
+      files = files_of m.held.files;
+      synced = files_of m.held.synced.value;
+      renamed = names_of m.held.touched.items;
+      written = ranges_of m.held.touched.items;
+      past = behind m.past.value;
+      failing = m.calls.failing;
+      asked = m.calls.asked;
+      working = m.calls.working;
+      calls = m.calls.calls;
+      faults = m.calls.faults;
+      refusals = m.calls.refusals;
+    } };
+
+    ghost invariant = { λ m. IsSound m.held };
+}
+
+/// Puts what a disk held in front of what it held before.
+fn note(past: &mut Snapshot<Past>, was: Snapshot<Now>)
+    ensures { past.new.value ≡ Then was past.old }
+{
+    let before = mem::replace(past, Snapshot::of(&Past::Start));
+    *past = Snapshot::of(&Past::Then(was, before));
 }
 
 impl MemDisk {
-    /// An empty disk, of which no call is to fail.
+    /// An empty disk, synced, of which no call is to fail.
     pub fn new(alloc: Global) -> MemDisk
         ensures { result ≡ fresh }
     {
+        MemDisk::of(alloc, BTreeMap::new(alloc))
+    }
+
+    /// A disk with these files, synced.
+    fn of(alloc: Global, files: BTreeMap<DiskName, Vec<u8>>) -> MemDisk
+        ensures { result ≡ record fresh { files = files_of files; synced = files_of files } }
+    {
         MemDisk {
             alloc,
-            files: BTreeMap::new(alloc),
-            failing: Vec::new(alloc),
-            asked: 0,
-            calls: 0,
-            faults: 0,
-            refusals: 0,
+            held: Now {
+                synced: Snapshot::of(&files),
+                files,
+                touched: Vec::new(alloc),
+            },
+            past: Snapshot::of(&Past::Start),
+            calls: Calls::new(alloc),
         }
     }
 
-    /// Puts a file there, in place of one of that name. It counts no call, and fails only with `Memory`;
-    /// then nothing has changed.
+    /// Puts a file there, in place of one of that name, and brings all that reads to the disk. It counts no
+    /// call, and fails only with `Memory`; then nothing has changed.
     pub fn add(&mut self, name: DiskName, bytes: &[u8]) -> Result<(), DiskErr>
         ensures put { OnOk result (folder_of self.new.files name ≡ Some bytes.now) }
         ensures others { KeepsOthers (name ∷ []) (folder_of self.old.files) (folder_of self.new.files) }
-        ensures rest { self.new ≡ record self.old { files = self.new.files } }
+        ensures synced { OnOk result (self.new.synced ≡ self.new.files) }
+        ensures images { OnOk result (Passes (KeepsOthers (name ∷ [])) (as_disk self.old) (as_disk self.new)) }
+        ensures only { OnOk result (LeavesOnly (folder_of self.new.files) (as_disk self.new)) }
+        ensures rest { self.new ≡ record self.old { files = self.new.files; synced = self.new.synced; renamed = self.new.renamed; written = self.new.written; past = self.new.past } }
         ensures refused { OnErr result (self.new ≡ self.old) }
         ensures memory { IsErrOf result Fault → ⊥ }
     {
         let Ok(copy) = Vec::from_slice(self.alloc, bytes) else {
             return Err(DiskErr::Memory);
         };
-        match files::put(&mut self.files, name, copy) {
-            Ok(()) => Ok(()),
+        let was = Snapshot::of(&self.held);
+        if let Err(_) = files::put(&mut self.held.files, name, copy) {
+            return Err(DiskErr::Memory);
+        }
+        steps::sync(&mut self.held);
+        note(&mut self.past, was);
+        Ok(())
+    }
+
+    /// An image that a crash may leave, as a synced disk on which no call was made and none is to fail. With
+    /// `Keep::Nothing` it is the folder at the last sync, with `Keep::All` the folder as it reads. With
+    /// `Keep::Byte` each name that was created or removed since has the one byte, and each other file its
+    /// length as it reads, with that byte wherever it was written since. It fails only with `Memory`.
+    pub fn crash(self, keep: Keep) -> Result<MemDisk, DiskErr>
+        ensures kept { IfOk result (λ left. IsKept keep (unsynced self) (folder_of self.files) (folder_of left.files)) }
+        ensures image { IfOk result (λ left. IsImage (unsynced self) (folder_of self.files) (folder_of left.files)) }
+        ensures synced { IfOk result (λ left. left ≡ record fresh { files = left.files; synced = left.files }) }
+        ensures memory { IsErrOf result Fault → ⊥ }
+    {
+        let MemDisk { alloc, held, .. } = self;
+        let Now {
+            mut files,
+            touched,
+            ..
+        } = held;
+        match crash::leave(alloc, &mut files, touched, keep) {
+            Ok(()) => Ok(MemDisk::of(alloc, files)),
             Err(_) => Err(DiskErr::Memory),
         }
     }
@@ -72,101 +133,92 @@ impl MemDisk {
     pub fn fail_at(&mut self, calls: Vec<u64>)
         ensures { self.new ≡ record self.old { failing = calls.items; asked = 0 } }
     {
-        self.failing = calls;
-        self.asked = 0;
+        self.calls.fail_at(calls);
+    }
+
+    /// The next `k` calls of `Disk` work. The call after them is left in progress, and it and all later ones
+    /// answer `Fault`: nothing reads otherwise, but a crash may leave what each of them may do.
+    pub fn stop_after(&mut self, k: u64)
+        ensures { self.new ≡ record self.old { working = Some k } }
+    {
+        self.calls.stop_after(k);
     }
 
     /// The bytes of a file; `None` exactly where it is absent. It counts no call.
     pub fn get(&self, name: &DiskName) -> Option<&[u8]>
         ensures { option_copied result ≡ folder_of self.now.files name.now }
     {
-        files::get(&self.files, name)
+        files::get(&self.held.files, name)
     }
 
     /// The number of calls of `Disk` since the disk was made, at most 2^64 - 1.
     pub fn calls(&self) -> u64
         ensures { result ≡ self.now.calls }
     {
-        self.calls
-    }
-
-    /// Counts a call, and says whether it is one that is to fail.
-    fn is_failing(&mut self) -> bool
-        ensures value { result ≡ fails_next self.old }
-        ensures counted { self.new ≡ counted self.old }
-        ensures rise { self.old.faults ≤ self.new.faults }
-    {
-        self.calls = self.calls.saturating_add(1);
-        self.asked = self.asked.saturating_add(1);
-        let fails = self.failing.contains(&self.asked);
-        if fails {
-            self.faults = self.faults.saturating_add(1);
-        }
-        fails
-    }
-
-    /// Counts a want of memory.
-    fn refuse(&mut self) -> DiskErr
-        ensures value { result ≡ Memory }
-        ensures counted { self.new ≡ record self.old { refusals = up self.old.refusals } }
-        ensures rise { self.old.refusals ≤ self.new.refusals }
-    {
-        self.refusals = self.refusals.saturating_add(1);
-        DiskErr::Memory
+        self.calls.made()
     }
 }
 
 impl Disk for MemDisk {
+    ghost use Rattle.std.specs.Prelude.{refl};
+    ghost use Rattle.std.proofs.Common.{inl};
+
     ghost tells = { Unit {0} };
 
     ghost state = { as_disk };
 
+    ghost reads_an_image = { λ told m. inl (inl refl) };
+
     fn len(&mut self, name: &DiskName) -> Result<Option<u64>, DiskErr>
         ensures value { IfOk result (λ n. n ≡ option_map length (folder_of self.old.files name.now)) }
         ensures same { self.new.files ≡ self.old.files }
+        ensures images { Passes Same (as_disk self.old) (as_disk self.new) }
+        ensures remembers { Remembers (as_disk self.old) (as_disk self.new) }
         ensures cause { HasCause (as_disk self.old) (as_disk self.new) result }
         ensures call { IsCall self.old self.new result }
         ensures memory { IsErrOf result Memory → ⊥ }
     {
-        if self.is_failing() {
+        if self.calls.is_failing() {
             return Err(DiskErr::Fault);
         }
-        match files::get(&self.files, name) {
-            Some(bytes) => Ok(Some(bytes.len() as u64)),
-            None => Ok(None),
-        }
+        Ok(files::len(&self.held.files, name))
     }
 
     fn read_into(&mut self, name: &DiskName, at: u64, buf: &mut [u8]) -> Result<usize, DiskErr>
         ensures within { IfOk result (λ n. n ≤ length buf.old) }
         ensures value { IfOk result (λ n. IsRead at n (folder_of self.old.files name.now) buf.old buf.new) }
         ensures same { self.new.files ≡ self.old.files }
+        ensures images { Passes Same (as_disk self.old) (as_disk self.new) }
+        ensures remembers { Remembers (as_disk self.old) (as_disk self.new) }
         ensures cause { HasCause (as_disk self.old) (as_disk self.new) result }
         ensures call { IsCall self.old self.new result }
         ensures idle { OnErr result (buf.new ≡ buf.old) }
         ensures memory { IsErrOf result Memory → ⊥ }
     {
-        if self.is_failing() {
+        if self.calls.is_failing() {
             return Err(DiskErr::Fault);
         }
-        match files::get(&self.files, name) {
-            Some(bytes) => Ok(files::read_at(bytes, at, buf)),
-            None => Ok(0),
-        }
+        Ok(files::read(&self.held.files, name, at, buf))
     }
 
     fn create(&mut self, name: &DiskName) -> Result<(), DiskErr>
         ensures made { OnOk result (folder_of self.new.files name.now ≡ Some []) }
         ensures others { KeepsOthers (name.now ∷ []) (folder_of self.old.files) (folder_of self.new.files) }
+        ensures images { Passes (KeepsOthers (name.now ∷ [])) (as_disk self.old) (as_disk self.new) }
+        ensures remembers { Remembers (as_disk self.old) (as_disk self.new) }
         ensures cause { HasCause (as_disk self.old) (as_disk self.new) result }
         ensures call { IsCall self.old self.new result }
     {
-        if self.is_failing() {
+        let was = Snapshot::of(&self.held);
+        let fails = self.calls.is_failing();
+        let done = steps::create(self.alloc, &mut self.held, name, !fails);
+        note(&mut self.past, was);
+        if fails {
             return Err(DiskErr::Fault);
         }
-        match files::put(&mut self.files, name.copy(), Vec::new(self.alloc)) {
+        match done {
             Ok(()) => Ok(()),
-            Err(_) => Err(self.refuse()),
+            Err(_) => Err(self.calls.refuse()),
         }
     }
 
@@ -174,15 +226,21 @@ impl Disk for MemDisk {
         requires { MayWrite at (length bytes.now) (folder_of self.old.files name.now) }
         ensures written { OnOk result (IfSome (folder_of self.old.files name.now) (λ old. folder_of self.new.files name.now ≡ Some (overwritten at bytes.now old))) }
         ensures torn { Tears name.now at (length bytes.now) (folder_of self.old.files) (folder_of self.new.files) }
+        ensures images { Passes (Tears name.now at (length bytes.now)) (as_disk self.old) (as_disk self.new) }
+        ensures remembers { Remembers (as_disk self.old) (as_disk self.new) }
         ensures cause { HasCause (as_disk self.old) (as_disk self.new) result }
         ensures call { IsCall self.old self.new result }
     {
-        if self.is_failing() {
+        let was = Snapshot::of(&self.held);
+        let fails = self.calls.is_failing();
+        let done = steps::write(self.alloc, &mut self.held, name, at as usize, bytes, !fails);
+        note(&mut self.past, was);
+        if fails {
             return Err(DiskErr::Fault);
         }
-        match files::write(&mut self.files, name, at as usize, bytes) {
+        match done {
             Ok(()) => Ok(()),
-            Err(_) => Err(self.refuse()),
+            Err(_) => Err(self.calls.refuse()),
         }
     }
 
@@ -190,40 +248,58 @@ impl Disk for MemDisk {
         ensures gone { OnOk result (folder_of self.new.files name.now ≡ None) }
         ensures others { KeepsOthers (name.now ∷ []) (folder_of self.old.files) (folder_of self.new.files) }
         ensures absent { folder_of self.old.files name.now ≡ None → folder_of self.new.files name.now ≡ None }
+        ensures images { Passes (KeepsOthers (name.now ∷ [])) (as_disk self.old) (as_disk self.new) }
+        ensures idle { folder_of self.old.files name.now ≡ None → Passes Same (as_disk self.old) (as_disk self.new) }
+        ensures remembers { Remembers (as_disk self.old) (as_disk self.new) }
         ensures cause { HasCause (as_disk self.old) (as_disk self.new) result }
         ensures call { IsCall self.old self.new result }
     {
-        if self.is_failing() {
+        let was = Snapshot::of(&self.held);
+        let fails = self.calls.is_failing();
+        let done = steps::remove(self.alloc, &mut self.held, name, !fails);
+        note(&mut self.past, was);
+        if fails {
             return Err(DiskErr::Fault);
         }
-        files::remove(&mut self.files, name);
-        Ok(())
+        match done {
+            Ok(()) => Ok(()),
+            Err(_) => Err(self.calls.refuse()),
+        }
     }
 
     fn names(&mut self, alloc: Global) -> Result<Vec<DiskName>, DiskErr>
         ensures all { IfOk result (λ names. (x : List ℕ) → Has x names.items ↔ IsSome (folder_of self.old.files x)) }
         ensures rising { IfOk result (λ names. Rise names.items) }
         ensures same { self.new.files ≡ self.old.files }
+        ensures images { Passes Same (as_disk self.old) (as_disk self.new) }
+        ensures remembers { Remembers (as_disk self.old) (as_disk self.new) }
         ensures cause { HasCause (as_disk self.old) (as_disk self.new) result }
         ensures call { IsCall self.old self.new result }
     {
-        if self.is_failing() {
+        if self.calls.is_failing() {
             return Err(DiskErr::Fault);
         }
-        match files::names(alloc, &self.files) {
+        match files::names(alloc, &self.held.files) {
             Ok(names) => Ok(names),
-            Err(_) => Err(self.refuse()),
+            Err(_) => Err(self.calls.refuse()),
         }
     }
 
     fn sync(&mut self) -> Result<(), DiskErr>
         ensures same { self.new.files ≡ self.old.files }
+        ensures images { Passes Same (as_disk self.old) (as_disk self.new) }
+        ensures only { OnOk result (LeavesOnly (folder_of self.new.files) (as_disk self.new)) }
+        ensures remembers { Remembers (as_disk self.old) (as_disk self.new) }
         ensures cause { HasCause (as_disk self.old) (as_disk self.new) result }
         ensures call { IsCall self.old self.new result }
+        ensures memory { IsErrOf result Memory → ⊥ }
     {
-        if self.is_failing() {
+        if self.calls.is_failing() {
             return Err(DiskErr::Fault);
         }
+        let was = Snapshot::of(&self.held);
+        steps::sync(&mut self.held);
+        note(&mut self.past, was);
         Ok(())
     }
 }

@@ -1,6 +1,7 @@
 ghost use Rattle.std.specs.Prelude.{◌≡◌, [], ◌∷◌, OnOk, Some};
 
-use crate::{Disk, DiskErr, DiskName, MemDisk, Whole, is_disk_name, read_whole};
+use crate::{Disk, DiskErr, DiskName, Keep, MemDisk, Whole, is_disk_name, read_whole};
+use std::alloc::Global;
 use std::test::Fail;
 
 fn make<D: Disk>(disk: &mut D, name: &DiskName) -> Result<(), DiskErr>
@@ -92,5 +93,52 @@ fn a_file_is_read_whole_up_to_the_limit(rt: HostRuntime) -> Result<(), Fail> {
         );
         assert!(rt; into.as_slice() == b"abc".as_slice(), "at {limit}");
     }
+    Ok(())
+}
+
+/// `a` is synced, and then written past its end; `b` is created.
+fn half_synced(alloc: Global) -> Result<MemDisk, DiskErr> {
+    let mut disk = MemDisk::new(alloc);
+    disk.add(DiskName::of(b"a"), b"abc")?;
+    disk.write(&DiskName::of(b"a"), 1, b"XYZ")?;
+    disk.create(&DiskName::of(b"b"))?;
+    Ok(disk)
+}
+
+/// What a crash leaves of `a` and `b`.
+fn is_left(alloc: Global, keep: Keep, a: Option<&[u8]>, b: Option<&[u8]>) -> Result<bool, DiskErr> {
+    let left = half_synced(alloc)?.crash(keep)?;
+    Ok(left.get(&DiskName::of(b"a")) == a && left.get(&DiskName::of(b"b")) == b)
+}
+
+#[test]
+fn a_crash_leaves_what_is_to_be_kept(rt: HostRuntime) -> Result<(), Fail> {
+    let alloc = rt.alloc();
+    assert!(rt; is_left(alloc, Keep::Nothing, Some(b"abc"), None)?);
+    assert!(rt; is_left(alloc, Keep::All, Some(b"aXYZ"), Some(b""))?);
+    assert!(rt;
+        is_left(
+            alloc,
+            Keep::Byte { b: 7 },
+            Some(b"a\x07\x07\x07"),
+            Some(b"\x07")
+        )?
+    );
+    Ok(())
+}
+
+#[test]
+fn a_stop_leaves_a_call_in_progress(rt: HostRuntime) -> Result<(), Fail> {
+    let alloc = rt.alloc();
+    let a = DiskName::of(b"a");
+    let mut disk = MemDisk::new(alloc);
+    disk.add(a.copy(), b"abcd")?;
+    disk.stop_after(1);
+    assert_eq!(rt; disk.len(&a)?, Some(4));
+    assert_eq!(rt; disk.write(&a, 1, b"XY"), Err(DiskErr::Fault));
+    assert_eq!(rt; disk.sync(), Err(DiskErr::Fault));
+    assert!(rt; disk.get(&a) == Some(b"abcd"));
+    let left = disk.crash(Keep::Byte { b: 7 })?;
+    assert!(rt; left.get(&a) == Some(b"a\x07\x07d") && left.calls() == 0);
     Ok(())
 }

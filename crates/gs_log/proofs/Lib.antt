@@ -1,0 +1,4 @@
+pub mod Append
+pub mod Blocks
+pub mod Create
+pub mod Records

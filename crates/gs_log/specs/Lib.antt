@@ -1,0 +1,5 @@
+pub mod Fits
+pub mod Grammar
+pub mod Holding
+pub mod Names
+pub mod Told

@@ -1,0 +1,34 @@
+// The bytes of a record.
+ghost use Rattle.std.specs.Prelude.{◌≡◌, ◌++◌, ◌≤◌, [], ◌∷◌, ℕ, List, length, IfOk, MatchOption};
+ghost use Rattle.std.specs.Int.{w32, to_le_bytes};
+ghost use Rattle.gs_log.specs.Grammar.{Begins};
+
+use crate::log::MAX_PAYLOAD;
+use std::alloc::{AllocError, Global};
+
+/// What stands behind the gate of a record: its length, its payload and the next gate, closed.
+pub fn closed_record(alloc: Global, payload: &[u8]) -> Result<Vec<u8>, AllocError>
+    requires { length payload.now ≤ 33554432 }
+    ensures { IfOk result (λ made. made.items ≡ (to_le_bytes w32 (length payload.now) ++ payload.now) ++ 0 ∷ []) }
+{
+    let mut closed = Vec::with_capacity(alloc, payload.len() + 5)?;
+    closed.extend_from_slice(&(payload.len() as u32).to_le_bytes())?;
+    closed.extend_from_slice(payload)?;
+    closed.push(0)?;
+    Ok(closed)
+}
+
+/// The payload of the record that begins behind a gate; `None` where none is whole, or no byte follows it.
+pub fn first_payload(behind: &[u8]) -> Option<&[u8]>
+    ensures { MatchOption result ((payload : List ℕ) → Begins payload behind.now → ⊥) (λ payload. Begins payload.now behind.now) }
+{
+    if behind.len() < 4 {
+        return None;
+    }
+    let len = u32::from_le_bytes([behind[0], behind[1], behind[2], behind[3]]) as usize;
+    let rest = &behind[4..];
+    if len > MAX_PAYLOAD || rest.len() <= len {
+        return None;
+    }
+    Some(&rest[..len])
+}
