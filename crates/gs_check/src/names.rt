@@ -1,0 +1,60 @@
+//! Checks of the declared names.
+
+ghost use Rattle.std.specs.Prelude.{◌≡◌, ◌<◌, ◌≤◌, ◌==◌, ◌||◌, None, MatchOption, slice_get, length, map, [], take, drop, is_some};
+ghost use Rattle.gs_idl.specs.Interface.{Op};
+ghost use Rattle.gs_tree.specs.View.{name_of, var_of};
+ghost use Rattle.gs_check.specs.Variables.{declared_kind};
+ghost use Rattle.gs_check.specs.Faults.{fault_if, find_op, is_taken, vars_fault, ◌then◌};
+
+use crate::expr::fault_if;
+use crate::kind::{CheckKind, Fault};
+use crate::vars::find_kind;
+use gs_idl::Idl;
+use gs_tree::tree::Var;
+
+/// The most variables of a program.
+const MAX_VARS: usize = 128;
+
+/// The first operation of a name.
+pub(crate) fn place_of(idl: &Idl, name: &[u8]) -> Option<u8>
+    ensures found { MatchOption result (find_op idl.now.ops name.now ≡ None) (λ i. slice_get idl.now.ops i ≡ find_op idl.now.ops name.now) }
+    ensures within { MatchOption result (find_op idl.now.ops name.now ≡ None) (λ i. i < length idl.now.ops) }
+{
+    for i in 0..idl.op_count() {
+        if idl.op_name(i) == name {
+            return Some(i);
+        }
+    }
+    None
+}
+
+fn is_taken(idl: &Idl, before: &[Var], name: &[u8]) -> bool
+    ensures { result ≡ is_taken idl.now.ops (map var_of before.now) name.now }
+{
+    find_kind(before, name).is_some() || place_of(idl, name).is_some()
+}
+
+fn var_fault(idl: &Idl, before: &[Var], v: &Var) -> Option<Fault>
+    ensures { result ≡ fault_if (is_taken idl.now.ops (map var_of before.now) (name_of v.now.name).text) v.now.name.line CheckKind.Twice
+        then fault_if (length (map var_of before.now) == 128) v.now.name.line CheckKind.TooMany }
+{
+    let twice = fault_if(
+        is_taken(idl, before, &v.name.name),
+        v.name.line,
+        CheckKind::Twice,
+    );
+    twice.or(fault_if(before.len() == MAX_VARS, v.name.line, CheckKind::TooMany))
+}
+
+/// The declared variables.
+pub(crate) fn vars_fault(idl: &Idl, vars: &[Var]) -> Option<Fault>
+    ensures { result ≡ vars_fault idl.now.ops [] (map var_of vars.now) }
+{
+    for i in 0..vars.len() {
+        let found = var_fault(idl, &vars[..i], &vars[i]);
+        if found.is_some() {
+            return found;
+        }
+    }
+    None
+}
