@@ -1,0 +1,148 @@
+use Rattle.std.proofs.Common.{rules, refl, ◌+◌, ◌∙◌, ap, arith}
+use Rattle.std.proofs.lemmas.Int.{to_z-of_z}
+use Rattle.std.specs.Int.{w64}
+use Rattle.gs_tree.specs.Program.{neg, not_, atoi, strcmp, num, lit, var}
+use Rattle.gs_tree.specs.Signs.{sign_of_symbol, sign_of_keyword}
+use Rattle.gs_tree.specs.View.{term_of}
+use Rattle.gs_tree.specs.declared.sign.Keyword.TheVariants.{Atoi, Strcmp}
+use Rattle.gs_tree.specs.declared.sign.Symbol.TheVariants.{Minus, Bang, OpenParen}
+use Rattle.gs_tree.specs.Sign.{number, string, ident, bad, comma, open_paren, close_paren}
+use Rattle.gs_parse.specs.Notation.{a_term, level}
+use Rattle.gs_parse.specs.Grammar.{expr}
+use Rattle.gs_parse.specs.Reads.{left, seen, Anything}
+use Rattle.gs_parse.proofs.Chain.{then_word, stop_word, then_part, stop_part, memory_err}
+use Rattle.gs_parse.proofs.Operands.{room_fit, room_deep, by_symbol, by_keyword, deep_symbol, deep_keyword, no_symbol, no_keyword, gave_leaf, operand_by, operand_stops, operand_ends, first_shown}
+use Rattle.gs_parse.proofs.Levels.{level_first, level_stop, tail_end, tail_more, tail_stop, tail_deep, height_joined, lined_two}
+use Rattle.gs_parse.proofs.expr.+expr.Goals as goal
+
+pub prefixed-returns-then-depth-ge-LIMIT-clause-reads : goal.prefixed-returns-then-depth-ge-LIMIT-clause-reads
+prefixed-returns-then-depth-ge-LIMIT-clause-reads t c = deep_symbol Minus c.args.symbol c.args.depth c.args.groups _ c.args.line _ _ c.in-Minus.is c.requires.stands (room_deep (c.args.depth + 1) c.if-depth-ge-LIMIT.true)
+
+pub prefixed-returns-then-depth-ge-LIMIT-2-clause-reads : goal.prefixed-returns-then-depth-ge-LIMIT-2-clause-reads
+prefixed-returns-then-depth-ge-LIMIT-2-clause-reads t c = deep_symbol Bang c.args.symbol c.args.depth c.args.groups _ c.args.line _ _ c.in-Bang.is c.requires.stands (room_deep (c.args.depth + 1) c.if-depth-ge-LIMIT-2.true)
+
+pub prefixed-returns-then-groups-ge-LIMIT-clause-reads : goal.prefixed-returns-then-groups-ge-LIMIT-clause-reads
+prefixed-returns-then-groups-ge-LIMIT-clause-reads t c = deep_symbol OpenParen c.args.symbol c.args.depth c.args.groups _ c.args.line _ _ c.in-OpenParen.is c.requires.stands (room_deep c.args.groups c.if-groups-ge-LIMIT.true)
+
+pub prefixed-returns-in-Err-clause-reads : goal.prefixed-returns-in-Err-clause-reads
+prefixed-returns-in-Err-clause-reads t c = by_symbol Minus c.args.symbol c.args.depth c.args.groups _ c.args.line _ _ _ _ c.in-Minus.is c.requires.stands (room_fit (c.args.depth + 1) c.if-depth-ge-LIMIT.false) (stop_part a_term (level 0 (c.args.depth + 1) c.args.groups) _ _ _ _ _ _ c.in-Err.ensures.reads)
+
+pub prefixed-returns-in-Ok-negated-clause-reads : goal.prefixed-returns-in-Ok-negated-clause-reads
+prefixed-returns-in-Ok-negated-clause-reads t c = by_symbol Minus c.args.symbol c.args.depth c.args.groups _ c.args.line _ _ _ _ c.in-Minus.is c.requires.stands (room_fit (c.args.depth + 1) c.if-depth-ge-LIMIT.false) (then_part a_term (level 0 (c.args.depth + 1) c.args.groups) _ _ _ _ _ _ _ _ c.in-Ok.ensures.reads (gave_leaf c.args.line _ (neg (term_of c.in-Ok.a.e)) _ _ _ c.in-Ok-negated.a c.requires.stands c.in-Ok-negated.ensures.0))
+
+pub prefixed-returns-in-Err-negated-clause-reads : goal.prefixed-returns-in-Err-negated-clause-reads
+prefixed-returns-in-Err-negated-clause-reads t c = memory_err _ _ _ _ _ _ c.in-Err-negated.ensures
+
+pub prefixed-returns-in-Err-operand-clause-reads : goal.prefixed-returns-in-Err-operand-clause-reads
+prefixed-returns-in-Err-operand-clause-reads t c = by_symbol Bang c.args.symbol c.args.depth c.args.groups _ c.args.line _ _ _ _ c.in-Bang.is c.requires.stands (room_fit (c.args.depth + 1) c.if-depth-ge-LIMIT-2.false) (stop_part a_term (level 0 (c.args.depth + 1) c.args.groups) _ _ _ _ _ _ c.in-Err-operand.ensures.reads)
+
+pub prefixed-returns-in-Ok-inverted-clause-reads : goal.prefixed-returns-in-Ok-inverted-clause-reads
+prefixed-returns-in-Ok-inverted-clause-reads t c = by_symbol Bang c.args.symbol c.args.depth c.args.groups _ c.args.line _ _ _ _ c.in-Bang.is c.requires.stands (room_fit (c.args.depth + 1) c.if-depth-ge-LIMIT-2.false) (then_part a_term (level 0 (c.args.depth + 1) c.args.groups) _ _ _ _ _ _ _ _ c.in-Ok-operand.ensures.reads (gave_leaf c.args.line _ (not_ (term_of c.in-Ok-operand.a.e)) _ _ _ c.in-Ok-inverted.a c.requires.stands c.in-Ok-inverted.ensures.0))
+
+pub prefixed-returns-in-Err-inverted-clause-reads : goal.prefixed-returns-in-Err-inverted-clause-reads
+prefixed-returns-in-Err-inverted-clause-reads t c = memory_err _ _ _ _ _ _ c.in-Err-inverted.ensures
+
+pub prefixed-returns-in-Err-binary-clause-reads : goal.prefixed-returns-in-Err-binary-clause-reads
+prefixed-returns-in-Err-binary-clause-reads t c = by_symbol OpenParen c.args.symbol c.args.depth c.args.groups _ c.args.line _ _ _ _ c.in-OpenParen.is c.requires.stands (room_fit c.args.groups c.if-groups-ge-LIMIT.false) (stop_part a_term (expr c.args.depth (c.args.groups + 1)) _ _ _ _ _ _ c.in-Err-binary.ensures.reads)
+
+pub prefixed-returns-in-Ok-expect-clause-reads : goal.prefixed-returns-in-Ok-expect-clause-reads
+prefixed-returns-in-Ok-expect-clause-reads t c = by_symbol OpenParen c.args.symbol c.args.depth c.args.groups _ c.args.line _ _ _ _ c.in-OpenParen.is c.requires.stands (room_fit c.args.groups c.if-groups-ge-LIMIT.false) (then_part a_term (expr c.args.depth (c.args.groups + 1)) _ _ _ _ _ _ _ _ c.in-Ok-binary.ensures.reads (then_word a_term close_paren Anything _ _ _ _ _ _ _ c.in-Ok-expect.ensures.expects (gave_leaf c.args.line _ (term_of c.in-Ok-binary.a.e) _ _ _ c.in-Ok-binary.a c.requires.stands refl)))
+
+pub prefixed-returns-in-Err-expect-clause-reads : goal.prefixed-returns-in-Err-expect-clause-reads
+prefixed-returns-in-Err-expect-clause-reads t c = by_symbol OpenParen c.args.symbol c.args.depth c.args.groups _ c.args.line _ _ _ _ c.in-OpenParen.is c.requires.stands (room_fit c.args.groups c.if-groups-ge-LIMIT.false) (then_part a_term (expr c.args.depth (c.args.groups + 1)) _ _ _ _ _ _ _ _ c.in-Ok-binary.ensures.reads (stop_word a_term close_paren Anything _ _ _ _ _ c.in-Err-expect.ensures.expects))
+
+pub prefixed-returns-in_default-clause-reads : goal.prefixed-returns-in_default-clause-reads
+prefixed-returns-in_default-clause-reads t c = operand_stops (sign_of_symbol c.args.symbol) c.args.depth c.args.groups _ c.args.line _ _ c.requires.stands (no_symbol c.args.symbol c.args.depth c.args.groups c.in_default.not-Minus c.in_default.not-Bang c.in_default.not-OpenParen)
+
+pub called-returns-then-depth-ge-LIMIT-clause-reads : goal.called-returns-then-depth-ge-LIMIT-clause-reads
+called-returns-then-depth-ge-LIMIT-clause-reads t c = deep_keyword Atoi c.args.keyword c.args.depth c.args.groups _ c.args.line _ _ c.in-Atoi.is c.requires.stands (room_deep (c.args.depth + 1) c.if-depth-ge-LIMIT.true)
+
+pub called-returns-then-depth-ge-LIMIT-2-clause-reads : goal.called-returns-then-depth-ge-LIMIT-2-clause-reads
+called-returns-then-depth-ge-LIMIT-2-clause-reads t c = deep_keyword Strcmp c.args.keyword c.args.depth c.args.groups _ c.args.line _ _ c.in-Strcmp.is c.requires.stands (room_deep (c.args.depth + 1) c.if-depth-ge-LIMIT-2.true)
+
+pub called-returns-in-Err-clause-reads : goal.called-returns-in-Err-clause-reads
+called-returns-in-Err-clause-reads t c = by_keyword Atoi c.args.keyword c.args.depth c.args.groups _ c.args.line _ _ _ _ c.in-Atoi.is c.requires.stands (room_fit (c.args.depth + 1) c.if-depth-ge-LIMIT.false) (stop_word a_term open_paren Anything _ _ _ _ _ c.in-Err.ensures.expects)
+
+pub called-returns-in-Err-binary-clause-reads : goal.called-returns-in-Err-binary-clause-reads
+called-returns-in-Err-binary-clause-reads t c = by_keyword Atoi c.args.keyword c.args.depth c.args.groups _ c.args.line _ _ _ _ c.in-Atoi.is c.requires.stands (room_fit (c.args.depth + 1) c.if-depth-ge-LIMIT.false) (then_word a_term open_paren Anything _ _ _ _ _ _ _ c.in-Ok.ensures.expects (stop_part a_term (expr (c.args.depth + 1) c.args.groups) _ _ _ _ _ _ c.in-Err-binary.ensures.reads))
+
+pub called-returns-in-Err-expect-clause-reads : goal.called-returns-in-Err-expect-clause-reads
+called-returns-in-Err-expect-clause-reads t c = by_keyword Atoi c.args.keyword c.args.depth c.args.groups _ c.args.line _ _ _ _ c.in-Atoi.is c.requires.stands (room_fit (c.args.depth + 1) c.if-depth-ge-LIMIT.false) (then_word a_term open_paren Anything _ _ _ _ _ _ _ c.in-Ok.ensures.expects (then_part a_term (expr (c.args.depth + 1) c.args.groups) _ _ _ _ _ _ _ _ c.in-Ok-binary.ensures.reads (stop_word a_term close_paren Anything _ _ _ _ _ c.in-Err-expect.ensures.expects)))
+
+pub called-returns-in-Ok-atoi_of-clause-reads : goal.called-returns-in-Ok-atoi_of-clause-reads
+called-returns-in-Ok-atoi_of-clause-reads t c = by_keyword Atoi c.args.keyword c.args.depth c.args.groups _ c.args.line _ _ _ _ c.in-Atoi.is c.requires.stands (room_fit (c.args.depth + 1) c.if-depth-ge-LIMIT.false) (then_word a_term open_paren Anything _ _ _ _ _ _ _ c.in-Ok.ensures.expects (then_part a_term (expr (c.args.depth + 1) c.args.groups) _ _ _ _ _ _ _ _ c.in-Ok-binary.ensures.reads (then_word a_term close_paren Anything _ _ _ _ _ _ _ c.in-Ok-expect.ensures.expects (gave_leaf c.args.line _ (atoi (term_of c.in-Ok-binary.a.e)) _ _ _ c.in-Ok-atoi_of.a c.requires.stands c.in-Ok-atoi_of.ensures.0))))
+
+pub called-returns-in-Err-atoi_of-clause-reads : goal.called-returns-in-Err-atoi_of-clause-reads
+called-returns-in-Err-atoi_of-clause-reads t c = memory_err _ _ _ _ _ _ c.in-Err-atoi_of.ensures
+
+pub called-returns-in-Err-expect-2-clause-reads : goal.called-returns-in-Err-expect-2-clause-reads
+called-returns-in-Err-expect-2-clause-reads t c = by_keyword Strcmp c.args.keyword c.args.depth c.args.groups _ c.args.line _ _ _ _ c.in-Strcmp.is c.requires.stands (room_fit (c.args.depth + 1) c.if-depth-ge-LIMIT-2.false) (stop_word a_term open_paren Anything _ _ _ _ _ c.in-Err-expect-2.ensures.expects)
+
+pub called-returns-in-Err-binary-2-clause-reads : goal.called-returns-in-Err-binary-2-clause-reads
+called-returns-in-Err-binary-2-clause-reads t c = by_keyword Strcmp c.args.keyword c.args.depth c.args.groups _ c.args.line _ _ _ _ c.in-Strcmp.is c.requires.stands (room_fit (c.args.depth + 1) c.if-depth-ge-LIMIT-2.false) (then_word a_term open_paren Anything _ _ _ _ _ _ _ c.in-Ok-expect-2.ensures.expects (stop_part a_term (expr (c.args.depth + 1) c.args.groups) _ _ _ _ _ _ c.in-Err-binary-2.ensures.reads))
+
+pub called-returns-in-Err-expect-3-clause-reads : goal.called-returns-in-Err-expect-3-clause-reads
+called-returns-in-Err-expect-3-clause-reads t c = by_keyword Strcmp c.args.keyword c.args.depth c.args.groups _ c.args.line _ _ _ _ c.in-Strcmp.is c.requires.stands (room_fit (c.args.depth + 1) c.if-depth-ge-LIMIT-2.false) (then_word a_term open_paren Anything _ _ _ _ _ _ _ c.in-Ok-expect-2.ensures.expects (then_part a_term (expr (c.args.depth + 1) c.args.groups) _ _ _ _ _ _ _ _ c.in-Ok-binary-2.ensures.reads (stop_word a_term comma Anything _ _ _ _ _ c.in-Err-expect-3.ensures.expects)))
+
+pub called-returns-in-Err-binary-3-clause-reads : goal.called-returns-in-Err-binary-3-clause-reads
+called-returns-in-Err-binary-3-clause-reads t c = by_keyword Strcmp c.args.keyword c.args.depth c.args.groups _ c.args.line _ _ _ _ c.in-Strcmp.is c.requires.stands (room_fit (c.args.depth + 1) c.if-depth-ge-LIMIT-2.false) (then_word a_term open_paren Anything _ _ _ _ _ _ _ c.in-Ok-expect-2.ensures.expects (then_part a_term (expr (c.args.depth + 1) c.args.groups) _ _ _ _ _ _ _ _ c.in-Ok-binary-2.ensures.reads (then_word a_term comma Anything _ _ _ _ _ _ _ c.in-Ok-expect-3.ensures.expects (stop_part a_term (expr (c.args.depth + 1) c.args.groups) _ _ _ _ _ _ c.in-Err-binary-3.ensures.reads))))
+
+pub called-returns-in-Err-expect-4-clause-reads : goal.called-returns-in-Err-expect-4-clause-reads
+called-returns-in-Err-expect-4-clause-reads t c = by_keyword Strcmp c.args.keyword c.args.depth c.args.groups _ c.args.line _ _ _ _ c.in-Strcmp.is c.requires.stands (room_fit (c.args.depth + 1) c.if-depth-ge-LIMIT-2.false) (then_word a_term open_paren Anything _ _ _ _ _ _ _ c.in-Ok-expect-2.ensures.expects (then_part a_term (expr (c.args.depth + 1) c.args.groups) _ _ _ _ _ _ _ _ c.in-Ok-binary-2.ensures.reads (then_word a_term comma Anything _ _ _ _ _ _ _ c.in-Ok-expect-3.ensures.expects (then_part a_term (expr (c.args.depth + 1) c.args.groups) _ _ _ _ _ _ _ _ c.in-Ok-binary-3.ensures.reads (stop_word a_term close_paren Anything _ _ _ _ _ c.in-Err-expect-4.ensures.expects)))))
+
+pub called-returns-in-Ok-strcmp_of-clause-reads : goal.called-returns-in-Ok-strcmp_of-clause-reads
+called-returns-in-Ok-strcmp_of-clause-reads t c = by_keyword Strcmp c.args.keyword c.args.depth c.args.groups _ c.args.line _ _ _ _ c.in-Strcmp.is c.requires.stands (room_fit (c.args.depth + 1) c.if-depth-ge-LIMIT-2.false) (then_word a_term open_paren Anything _ _ _ _ _ _ _ c.in-Ok-expect-2.ensures.expects (then_part a_term (expr (c.args.depth + 1) c.args.groups) _ _ _ _ _ _ _ _ c.in-Ok-binary-2.ensures.reads (then_word a_term comma Anything _ _ _ _ _ _ _ c.in-Ok-expect-3.ensures.expects (then_part a_term (expr (c.args.depth + 1) c.args.groups) _ _ _ _ _ _ _ _ c.in-Ok-binary-3.ensures.reads (then_word a_term close_paren Anything _ _ _ _ _ _ _ c.in-Ok-expect-4.ensures.expects (gave_leaf c.args.line _ (strcmp (term_of c.in-Ok-binary-2.a.e) (term_of c.in-Ok-binary-3.b.e)) _ _ _ c.in-Ok-strcmp_of.a c.requires.stands c.in-Ok-strcmp_of.ensures.0))))))
+
+pub called-returns-in-Err-strcmp_of-clause-reads : goal.called-returns-in-Err-strcmp_of-clause-reads
+called-returns-in-Err-strcmp_of-clause-reads t c = memory_err _ _ _ _ _ _ c.in-Err-strcmp_of.ensures
+
+pub called-returns-in_default-clause-reads : goal.called-returns-in_default-clause-reads
+called-returns-in_default-clause-reads t c = operand_stops (sign_of_keyword c.args.keyword) c.args.depth c.args.groups _ c.args.line _ _ c.requires.stands (no_keyword c.args.keyword c.args.depth c.args.groups c.in_default.not-Atoi c.in_default.not-Strcmp)
+
+pub operand-returns-in-None-clause-reads : goal.operand-returns-in-None-clause-reads
+operand-returns-in-None-clause-reads t c = operand_ends _ _ _ _ c.in-None.ensures.shows
+
+pub operand-returns-in-Err-clause-reads : goal.operand-returns-in-Err-clause-reads
+operand-returns-in-Err-clause-reads t c = memory_err _ _ _ _ _ _ c.in-Err.ensures
+
+pub operand-returns-in-Err-name_leaf-clause-reads : goal.operand-returns-in-Err-name_leaf-clause-reads
+operand-returns-in-Err-name_leaf-clause-reads t c = memory_err _ _ _ _ _ _ c.in-Err-name_leaf.ensures
+
+pub operand-returns-in-Number-clause-reads : goal.operand-returns-in-Number-clause-reads
+operand-returns-in-Number-clause-reads t c = operand_by (number c.in-Number.v) c.args.depth c.args.groups _ c.in-Some.mark.line _ _ _ _ (first_shown c.in-Some.mark _ _ _ c.in-Some.ensures.shows c.in-Number.is) refl (gave_leaf c.in-Some.mark.line _ (num c.in-Some.mark.line c.in-Number.v) _ _ _ _ (first_shown c.in-Some.mark _ _ _ c.in-Some.ensures.shows c.in-Number.is) (c.number_leaf.ensures.value ∙ ap (λ z. num c.in-Some.mark.line z) (to_z-of_z w64 c.in-Number.v (search (rules)))))
+
+pub operand-returns-in-Ok-clause-reads : goal.operand-returns-in-Ok-clause-reads
+operand-returns-in-Ok-clause-reads t c = operand_by (string c.in-Text.s.now) c.args.depth c.args.groups _ c.in-Some.mark.line _ _ _ _ (first_shown c.in-Some.mark _ _ _ c.in-Some.ensures.shows c.in-Text.is) refl (gave_leaf c.in-Some.mark.line _ (lit c.in-Some.mark.line c.in-Text.s.now) _ _ _ _ (first_shown c.in-Some.mark _ _ _ c.in-Some.ensures.shows c.in-Text.is) c.in-Ok.ensures.0)
+
+pub operand-returns-in-Ok-name_leaf-clause-reads : goal.operand-returns-in-Ok-name_leaf-clause-reads
+operand-returns-in-Ok-name_leaf-clause-reads t c = operand_by (ident c.in-Name.w.now) c.args.depth c.args.groups _ c.in-Some.mark.line _ _ _ _ (first_shown c.in-Some.mark _ _ _ c.in-Some.ensures.shows c.in-Name.is) refl (gave_leaf c.in-Some.mark.line _ (var (record { line = c.in-Some.mark.line; text = c.in-Name.w.now })) _ _ _ _ (first_shown c.in-Some.mark _ _ _ c.in-Some.ensures.shows c.in-Name.is) c.in-Ok-name_leaf.ensures.0)
+
+pub operand-returns-in-Bad-clause-reads : goal.operand-returns-in-Bad-clause-reads
+operand-returns-in-Bad-clause-reads t c = operand_stops (bad c.in-Bad.field-0) c.args.depth c.args.groups _ c.in-Some.mark.line _ _ (first_shown c.in-Some.mark _ _ _ c.in-Some.ensures.shows c.in-Bad.is) refl
+
+pub binary-returns-in-Err-clause-reads : goal.binary-returns-in-Err-clause-reads
+binary-returns-in-Err-clause-reads t c = level_stop c.args.tightness c.args.depth c.args.groups _ _ _ _ (omega (arith, c.if-tightness-eq0.false)) c.in-Err.ensures.reads
+
+pub binary-parts-init : goal.binary-parts-init
+binary-parts-init t c = record { onward = c.in-Ok.ensures.onward; room = c.in-Ok.ensures.room; height_is = c.in-Ok.ensures.height; reads = level_first c.args.tightness c.args.depth c.args.groups _ _ _ c.in-Ok.first (omega (arith, c.if-tightness-eq0.false)) c.in-Ok.ensures.reads }
+
+pub binary-returns-in-None-clause-reads : goal.binary-returns-in-None-clause-reads
+binary-returns-in-None-clause-reads t c = c.parts.invariant.reads _ _ (tail_end c.args.tightness c.args.depth c.args.groups (seen (left c.args.tokens.now c.args.at.now) c.parts.all) (seen (left c.args.tokens.now c.args.at.now)) _ c.parts.all (omega (arith, c.if-tightness-eq0.false)) c.in-None.ensures.stands refl)
+
+pub binary-returns-then-depth-all-ge-LIMIT-clause-reads : goal.binary-returns-then-depth-all-ge-LIMIT-clause-reads
+binary-returns-then-depth-all-ge-LIMIT-clause-reads t c = c.parts.invariant.reads _ _ (tail_deep c.args.tightness c.args.depth c.args.groups (seen (left c.args.tokens.now c.args.at.now) c.parts.all) c.in-Some.op _ _ _ (omega (arith, c.if-tightness-eq0.false)) c.in-Some.ensures.stands (omega (arith, c.if-depth-all-ge-LIMIT.true, c.parts.invariant.height_is)))
+
+pub binary-returns-in-Err-binary-clause-reads : goal.binary-returns-in-Err-binary-clause-reads
+binary-returns-in-Err-binary-clause-reads t c = c.parts.invariant.reads _ _ (tail_stop c.args.tightness c.args.depth c.args.groups (seen (left c.args.tokens.now c.args.at.now) c.parts.all) c.in-Some.op _ _ _ _ _ _ (omega (arith, c.if-tightness-eq0.false)) c.in-Some.ensures.stands (omega (arith, c.if-depth-all-ge-LIMIT.false, c.parts.invariant.height_is)) c.in-Err-binary.ensures.reads)
+
+pub binary-returns-in-Err-joined_by-clause-reads : goal.binary-returns-in-Err-joined_by-clause-reads
+binary-returns-in-Err-joined_by-clause-reads t c = memory_err _ _ _ _ _ _ c.in-Err-joined_by.ensures
+
+pub binary-parts-preserved : goal.binary-parts-preserved
+binary-parts-preserved t c = record {
+  onward = omega (arith, c.parts.invariant.onward, c.in-Ok-binary.ensures.onward);
+  room = omega (arith, c.in-Ok-joined_by.ensures.1, c.if-depth-all-ge-LIMIT.false, c.in-Ok-binary.ensures.room);
+  height_is = height_joined c.in-Ok-joined_by.all.height c.parts.all.height c.in-Ok-binary.next.height c.in-Some.op _ _ _ c.parts.invariant.height_is c.in-Ok-binary.ensures.height c.in-Ok-joined_by.ensures.1 c.in-Ok-joined_by.ensures.0;
+  reads = λ result new r. c.parts.invariant.reads result new
+      (tail_more c.args.tightness c.args.depth c.args.groups (seen (left c.args.tokens.now c.args.at.now) c.parts.all) c.in-Some.op _ _ _ _ _ c.in-Ok-binary.next (seen (left c.args.tokens.now c.args.at.now) c.in-Ok-joined_by.all) (omega (arith, c.if-tightness-eq0.false)) c.in-Some.ensures.stands (omega (arith, c.if-depth-all-ge-LIMIT.false, c.parts.invariant.height_is)) c.in-Ok-binary.ensures.reads (lined_two _ _ _ c.in-Ok-joined_by.ensures.0) result new r);
+}

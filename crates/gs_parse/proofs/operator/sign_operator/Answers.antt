@@ -1,0 +1,8 @@
+use Rattle.std.proofs.Common.{ap, ◌∙◌, sym}
+use Rattle.gs_parse.specs.Symbols.{operator}
+use Rattle.gs_tree.specs.Shown.{sign_shown}
+use Rattle.gs_parse.proofs.Levels.{no_operator_keyword}
+use Rattle.gs_parse.proofs.operator.sign_operator.Goals as goal
+
+pub returns-in-Keyword : goal.returns-in-Keyword
+returns-in-Keyword c = no_operator_keyword c.in-Keyword.field-0 ∙ sym (ap (λ z. operator (sign_shown z)) c.in-Keyword.is)

@@ -1,0 +1,12 @@
+pub mod Symbols
+pub mod Notation
+pub mod Grammar
+pub mod Reading
+pub mod Laws
+pub mod Reads
+pub mod Words
+pub mod Operators
+pub mod Begins
+pub mod Blocks
+pub mod Frame
+pub mod Faulty
