@@ -9,7 +9,9 @@ gs="$top/crates/gs/out/gs"
 folder=$(mktemp -d)
 cp "$top"/examples/study/* "$folder"
 cd "$folder"
-echo "== gs run study.idl study.c workers.txt, in $folder"
+echo "== gs check study.idl study.c, in $folder"
+"$gs" check study.idl study.c
+echo "== gs run study.idl study.c workers.txt"
 "$gs" run study.idl study.c workers.txt
 echo "== all.txt"
 cat all.txt

@@ -46,7 +46,9 @@ fresh; case_of "a word too few" 2 "gs: usage: word 3$lf" run k.idl p.c; gone usa
 fresh; case_of "a name that begins with a dot" 2 "gs: usage: word 1$lf" run .k p.c w.txt
 fresh; rm k.idl; case_of "no IDL" 3 "gs: no text: k.idl$lf" $run; gone "no IDL" C
 fresh; rm w.txt; case_of "no worker list" 3 "gs: no text: w.txt$lf" $run; gone "no list" C
-fresh; printf ' ' >> p.c; case_of "a blank behind the program" 4 "gs: bad text: p.c:0: NotYet$lf" $run; gone blank C
+fresh; printf ' // end' >> p.c; case_of "a comment behind the program" 0 "" $run; same comment C xy
+fresh; printf '}' >> p.c; case_of "a brace behind the program" 4 "gs: bad text: p.c:6: Unexpected$lf" $run; gone brace C
+fresh; printf 'main() { int n; GS_On(); GS_Off(0); }' > p.c; case_of "a program that declares" 4 "gs: bad text: p.c:0: NotYet$lf" $run
 fresh; rm B; case_of "a file that can't be read" 4 "gs: bad text: p.c:0: NotYet$lf" $run; gone "no B" C
 fresh; printf 'exit 1\n' > join; printf old > C; case_of "a program that ends with 1" 9 "gs: task lost: 1$lf" $run; same "ends with 1" C old
 fresh; printf 'exit 0\n' > join; case_of "an output left out" 9 "gs: task lost: 1$lf" $run; gone "left out" C
@@ -62,6 +64,17 @@ odd=ABCDEFGHIJKLMNOPQRSTUVWXYZabcdefghijklmnopqrstuvwxyz0123456789._-
 printf 'odd' > "$odd"
 sed "s/\"A\"/\"$odd\"/; s/\"C\"/\"-$odd\"/" p.c > q && mv q p.c
 case_of "names with every byte" 0 "" $run; same odd "./-$odd" oddxy
+
+# the command check: one case of each status
+fresh; "$gs" check k.idl p.c > .out 2> .err
+if [ $? -eq 0 ] && cat k.idl p.c | cmp -s - .out && [ ! -s .err ]; then echo "ok a check prints both texts"; else echo "FAILED a check prints both texts: $(cat .out .err)"; failed=1; fi
+gone check C
+fresh; case_of "a check with a word too many" 2 "gs: usage: word 3$lf" check k.idl p.c w.txt
+fresh; rm p.c; case_of "a check without a program" 3 "gs: no text: p.c$lf" check k.idl p.c
+fresh; printf 'interface K { void f(inout int n); };' > k.idl; case_of "a check of a wrong IDL" 4 "gs: bad text: k.idl:1: BadCombination$lf" check k.idl p.c
+fresh; rm k.idl; ln -s k.idl k.idl; case_of "a check of an IDL that can't be opened" 10 "gs: disk fault$lf" check k.idl p.c
+fresh; "$gs" check k.idl p.c > /dev/full 2> .err
+if [ $? -eq 11 ] && [ "$(cat .err)" = "gs: sink fault" ]; then echo "ok a check whose output fails"; else echo "FAILED a check whose output fails: $(cat .err)"; failed=1; fi
 
 # an input of the limit's length, and one byte more
 fresh

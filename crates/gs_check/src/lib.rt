@@ -15,4 +15,5 @@ mod vars;
 
 pub use checked::Checked;
 pub use kind::CheckKind;
+pub use names::place_of;
 pub use run::{CheckErr, check};

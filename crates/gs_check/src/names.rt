@@ -15,8 +15,8 @@ use gs_tree::tree::Var;
 /// The most variables of a program.
 const MAX_VARS: usize = 128;
 
-/// The first operation of a name.
-pub(crate) fn place_of(idl: &Idl, name: &[u8]) -> Option<u8>
+/// The place of the first operation with this name, from 0; `None` exactly where none has it.
+pub fn place_of(idl: &Idl, name: &[u8]) -> Option<u8>
     ensures found { MatchOption result (find_op idl.now.ops name.now ≡ None) (λ i. slice_get idl.now.ops i ≡ find_op idl.now.ops name.now) }
     ensures within { MatchOption result (find_op idl.now.ops name.now ≡ None) (λ i. i < length idl.now.ops) }
 {

@@ -1,17 +1,16 @@
--- What the tests of words, names and lists mean.
-use Rattle.std.proofs.Common.{◌≡◌, ℕ, zero, suc, ◌<◌, ◌≤◌, Bool, true, false, not, eqb, leb, List, [], ◌∷◌, length, get_or, refl, arith, inl, inr}
+-- What the tests of names and paths mean.
+use Rattle.std.proofs.Common.{◌≡◌, ℕ, zero, suc, ◌<◌, ◌≤◌, Bool, true, false, not, eqb, leb, List, [], ◌∷◌, length, refl, arith, inl, inr}
 use Rattle.std.specs.Prelude.{◌≢◌, ◌==◌, ◌&&◌, slice_index}
-use Rattle.std.specs.List.{All, AllPass, AllPairs, list_any, list_all}
+use Rattle.std.specs.List.{All, AllPass, list_any, list_all}
 use Rattle.std.specs.Str.{bytes_eq}
 use Rattle.std.proofs.lemmas.Bool.{eqb-true, ne_eqb, leb-true, le-leb, and_parts, and_from, or_parts, or_from, cases_Bool}
 use Rattle.std.proofs.lemmas.Slice.Eq.{bytes_eq-Decides}
 use Rattle.std.proofs.lemmas.List.Sums.{AllPass-from_list_all, list_all-from_AllPass}
-use Rattle.std.proofs.lemmas.List.Folds.{list_any_none}
 use Rattle.std.proofs.lemmas.List.Elements.{All-nil, All-cons, All-weaker, All-from_get_or}
 use Rattle.gs_types.specs.Name.{is_name_byte, may_stand, GoesTo, IsName, IsBadAt}
-use Rattle.gs_form.specs.Ident.{is_letter, is_ident_byte, keywords, IsIdent}
 use Rattle.gs_form.specs.Format.{passes}
-use Rattle.gs_form.specs.Forms.{is_keyword, begins_with_letter, is_ident, begins_with_dot, is_name, apart, is_path_byte, is_path, IsPath}
+use Rattle.gs_form.specs.Named.{begins_with_dot, is_name}
+use Rattle.gs_form.specs.Forms.{is_path_byte, is_path, IsPath}
 
 -- ---- tests
 
@@ -37,69 +36,6 @@ none_of p [] e = All-nil (λ x. p x ≡ false)
 none_of p (x ∷ xs) e =
     let both = or_parts (p x) (list_any p xs) e in
     All-cons (λ x. p x ≡ false) x xs both.0 (none_of p xs both.1)
-
--- ---- distinct items
-
-abbrev later : {A : Type 0} → (A → A → Bool) → A → List A → Type 0
-later clash x xs = All (λ y. clash x y ≡ false) xs
-
-pub apart_takes : {A : Type 0} (clash : A → A → Bool) (R : A → A → Type 0) → ((x y : A) → clash x y ≡ false → R x y) → (xs : List A) → apart clash xs ≡ true → AllPairs R xs
-apart_takes clash R there [] e i j d lt h = absurd (omega arith)
-apart_takes clash R there (x ∷ xs) e zero zero d lt h = absurd (omega arith)
-apart_takes clash R there (x ∷ xs) e zero (suc j) d lt h =
-    let both = and_parts (not (list_any (clash x) xs)) (apart clash xs) e in
-    there x (get_or xs j d) (none_of (clash x) xs (not_true (list_any (clash x) xs) both.0) j d (omega arith))
-apart_takes clash R there (x ∷ xs) e (suc i) zero d lt h = absurd (omega arith)
-apart_takes clash R there (x ∷ xs) e (suc i) (suc j) d lt h =
-    let both = and_parts (not (list_any (clash x) xs)) (apart clash xs) e in
-    apart_takes clash R there xs both.1 i j d (omega arith) (omega arith)
-
-pub apart_gives : {A : Type 0} (clash : A → A → Bool) (R : A → A → Type 0) → ((x y : A) → R x y → clash x y ≡ false) → (xs : List A) → AllPairs R xs → apart clash xs ≡ true
-apart_gives clash R back [] h = refl
-apart_gives clash R back (x ∷ xs) h =
-    and_from (not (list_any (clash x) xs)) (apart clash xs)
-    (not_from (list_any (clash x) xs) (list_any_none (clash x) xs (λ k d lt. back x (get_or xs k d) (h 0 (suc k) d (omega arith) (omega arith)))))
-    (apart_gives clash R back xs (λ i j d lt in'. h (suc i) (suc j) d (omega arith) (omega arith)))
-
--- ---- identifiers
-
-letter_first : (w : List ℕ) → begins_with_letter w ≡ true → (1 ≤ length w) × (is_letter (slice_index w 0) ≡ true)
-letter_first [] e = absurd cc
-letter_first (b ∷ w) e = (omega arith, e)
-
-first_letter : (w : List ℕ) → 1 ≤ length w → is_letter (slice_index w 0) ≡ true → begins_with_letter w ≡ true
-first_letter [] h e = absurd (omega arith)
-first_letter (b ∷ w) h e = e
-
-keyword_free : (w : List ℕ) → is_keyword w ≡ false → All (λ k. w ≢ k) keywords
-unfolding is_keyword
-keyword_free w e = All-weaker (λ k. bytes_eq w k ≡ false) (λ k. w ≢ k) (λ k no. differs_no w k no) keywords (none_of (λ k. bytes_eq w k) keywords e)
-
-free_keyword : (w : List ℕ) → All (λ k. w ≢ k) keywords → is_keyword w ≡ false
-unfolding is_keyword
-free_keyword w h = list_any_none (λ k. bytes_eq w k) keywords (All-weaker (λ k. w ≢ k) (λ k. bytes_eq w k ≡ false) (λ k ne. no_differs w k ne) keywords h)
-
-pub ident_takes : (w : List ℕ) → is_ident w ≡ true → IsIdent w
-unfolding is_ident
-ident_takes w e =
-    let a = and_parts (begins_with_letter w) (leb (length w) 64 && (list_all is_ident_byte w && not (is_keyword w))) e in
-    let b = and_parts (leb (length w) 64) (list_all is_ident_byte w && not (is_keyword w)) a.1 in
-    let c = and_parts (list_all is_ident_byte w) (not (is_keyword w)) b.1 in
-    let f = letter_first w a.0 in
-    record {
-      some = f.0;
-      short = leb-true _ _ b.0;
-      first = f.1;
-      each = AllPass-from_list_all is_ident_byte w c.0;
-      free = keyword_free w (not_true (is_keyword w) c.1);
-    }
-
-pub ident_gives : (w : List ℕ) → IsIdent w → is_ident w ≡ true
-unfolding is_ident
-ident_gives w h =
-    and_from (begins_with_letter w) _ (first_letter w h.some h.first)
-    (and_from (leb (length w) 64) _ (le-leb _ _ h.short)
-    (and_from (list_all is_ident_byte w) _ (list_all-from_AllPass is_ident_byte w h.each) (not_from (is_keyword w) (free_keyword w h.free))))
 
 -- ---- names
 

@@ -1,6 +1,6 @@
 -- Internal to the proofs: formats, each with its spelling and a reader from the front. No clause of a public function names one.
-use Rattle.std.specs.Prelude.{ℕ, zero, suc, ◌<◌, ◌≤◌, Bool, true, false, not, List, [], ◌∷◌, ◌++◌, length, take, drop, Option, Some, None, ◌==◌, if◌then◌else◌}
-use Rattle.std.specs.List.{All, list_any, prefix_len}
+use Rattle.std.specs.Prelude.{ℕ, Bool, not, List, [], ◌∷◌, ◌++◌, length, take, drop, Option, Some, None, ◌==◌, if◌then◌else◌}
+use Rattle.std.specs.List.{list_any, prefix_len}
 use Rattle.std.specs.Str.{bytes_eq}
 
 infixl 10 ◌>>=◌
@@ -66,39 +66,3 @@ seen put get P f = record {
   spell = λ x. f.spell (get x);
   read = λ b. f.read b >>= λ a. put a.0 >>= λ x. Some (x, a.1);
 }
-
-abbrev pub spell_all : {A : Type 0} → Format A → List A → List ℕ
-spell_all f [] = []
-spell_all f (x ∷ xs) = f.spell x ++ spell_all f xs
-
--- fewer than that many up to a literal text
-unfoldable pub listed_at : {A : Type 0} → Format A → List ℕ → ℕ → List ℕ → Option (List A × List ℕ)
-listed_at f end zero b = None
-listed_at f end (suc n) b = elim (strip end b) [
-  | Some r ↦ Some ([], r)
-  | None ↦ f.read b >>= λ x. listed_at f end n x.1 >>= λ xs. Some (x.0 ∷ xs.0, xs.1)
-]
-
-abbrev pub listed : {A : Type 0} → Format A → List ℕ → ℕ → Format (List A)
-listed f end n = record { fits = λ xs. All f.fits xs × (length xs < n); spell = λ xs. spell_all f xs ++ end; read = listed_at f end n }
-
-abbrev pub spell_chain : {A : Type 0} → Format (A × Bool) → List A → List ℕ
-spell_chain f [] = []
-spell_chain f (x ∷ []) = f.spell (x, false)
-spell_chain f (x ∷ y ∷ ys) = f.spell (x, true) ++ spell_chain f (y ∷ ys)
-
--- at most that many, each of which says whether another follows
-unfoldable pub chain_at : {A : Type 0} → Format (A × Bool) → ℕ → List ℕ → Option (List A × List ℕ)
-chain_at f zero b = None
-chain_at f (suc n) b = f.read b >>= λ x. if x.0.1 then (chain_at f n x.1 >>= λ xs. Some (x.0.0 ∷ xs.0, xs.1)) else Some (x.0.0 ∷ [], x.1)
-
-abbrev pub chain : {A : Type 0} → Format (A × Bool) → ℕ → Format (List A)
-chain f n = record { fits = λ xs. All (λ x. f.fits (x, false)) xs × (1 ≤ length xs) × (length xs ≤ n); spell = spell_chain f; read = chain_at f n }
-
--- all of the bytes
-abbrev pub ended : {A : Type 0} → A × List ℕ → Option A
-ended (a, []) = Some a
-ended (a, x ∷ xs) = None
-
-abbrev pub whole : {A : Type 0} → Format A → List ℕ → Option A
-whole f b = f.read b >>= ended

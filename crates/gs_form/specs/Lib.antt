@@ -1,7 +1,6 @@
 pub mod Format
 pub mod Forms
 pub mod Gives
-pub mod Ident
-pub mod Idl
-pub mod Program
+pub mod Named
+pub mod Straight
 pub mod Worker

@@ -1,20 +1,24 @@
-// The program text.
-ghost use Rattle.std.specs.Prelude.{◌≡◌, List, length, map, Some, IfOk, IfSome};
+// A straight program: one call after the other, each with files alone.
+ghost use Rattle.std.specs.Prelude.{◌≡◌, ◌<◌, ◌≤◌, ◌+◌, length, map, slice_get, Some, None, IfOk, IfSome, [], ◌==◌};
 ghost use Rattle.std.specs.List.{list_any};
 ghost use Rattle.std.specs.Option.{option_copied};
-ghost use lib.Chars.{codes};
-ghost use Rattle.gs_form.specs.Format.{whole, listed_at, chain_at};
-ghost use Rattle.gs_form.specs.Forms.{name_item, call, placed, writes, is_text, both_write, apart, resolved, step, program};
-ghost use Rattle.gs_form.specs.Gives.{Has, Gives, Finds};
-ghost use Rattle.gs_form.specs.declared.program.Step.{Step};
-ghost use Rattle.gs_form.specs.Program.{operation_named, SaysProgram};
+ghost use Rattle.gs_idl.specs.Interface.{Op, Param};
+ghost use Rattle.gs_tree.specs.View.{term_of, passed_of, name_of, code_of, codes_of, program_of};
+ghost use Rattle.gs_form.specs.Straight.{way_of, writes, is_text, both_write, apart, is_sound, literal_of, file_named, place_for, places_for, step_by, step_for, code_step, steps_for, is_bare, straight_calls};
 
-use crate::cursor::{Cursor, Failure, Mismatch, settle};
-use crate::idl::{Idl, Operation, Param, Way};
-use crate::lists::more;
-use crate::words::{next_ident, next_name};
+use gs_check::place_of;
+use gs_idl::{Dir, Idl, Kind};
+use gs_tree::tree::{Argument, Expr, Ident, Stmt, Tree};
 use gs_types::{Blob, Name, NoMemory, Sequence};
 use std::alloc::Global;
+
+/// What a task does with the file at a place: `in`, `inout` and `out`.
+#[derive(Clone, Copy, Debug, PartialEq, Eq)]
+pub enum Way {
+    Reads,
+    Changes,
+    Makes,
+}
 
 /// The file at a place of a call, and what the task does with it.
 #[derive(Drop)]
@@ -30,67 +34,17 @@ pub struct Step {
     pub places: Sequence<Place>,
 }
 
-// A name in quotes, and whether another follows.
-#[tactic(auto, unfolding(crate::specs::Forms::name_item))]
-fn next_file(cursor: &mut Cursor) -> Result<(Name, bool), Mismatch>
-    ensures { Has (λ x. x) cursor.new result (name_item.read cursor.old) }
-{
-    cursor.literal(b"\"")?;
-    let name = next_name(cursor, b"\"")?;
-    cursor.literal(b"\"")?;
-    let more = more(cursor)?;
-    Ok((name, more))
-}
+/// The most calls of a program that is carried out.
+const MAX_CALLS: usize = 10_000;
 
-fn next_files(alloc: Global, cursor: &mut Cursor) -> Result<Sequence<Name>, Failure>
-    ensures { Gives (λ x. x) cursor.new result (chain_at name_item 16 cursor.old) }
+fn way_of(dir: Dir) -> Way
+    ensures { result ≡ way_of dir }
 {
-    let mut names = Sequence::new(alloc);
-    for _ in 0..16u32 {
-        let (item, more) = next_file(cursor)?;
-        names.push(item)?;
-        if !more {
-            return Ok(names);
-        }
+    match dir {
+        Dir::Input => Way::Reads,
+        Dir::Both => Way::Changes,
+        Dir::Output => Way::Makes,
     }
-    Err(Failure::NotForm)
-}
-
-// The operation's name and the files' names of a call.
-#[tactic(auto, unfolding(crate::specs::Forms::call))]
-fn next_call(alloc: Global, cursor: &mut Cursor) -> Result<(Blob, Sequence<Name>), Failure>
-    ensures { Gives (λ x. x) cursor.new result (call.read cursor.old) }
-{
-    cursor.literal(b"    ")?;
-    let op = Blob::copy(alloc, next_ident(cursor, b"(")?)?;
-    cursor.literal(b"(")?;
-    let names = next_files(alloc, cursor)?;
-    Ok((op, names))
-}
-
-fn find_operation<'a>(idl: &'a Idl, name: &Blob) -> Option<&'a Operation>
-    ensures { option_copied result ≡ operation_named idl.now name.now }
-{
-    for operation in idl.operations.items() {
-        if operation.name.bytes() == name.bytes() {
-            return Some(operation);
-        }
-    }
-    None
-}
-
-fn place_all(alloc: Global, params: &[Param], names: &[Name]) -> Result<Sequence<Place>, NoMemory>
-    requires { length params.now ≡ length names.now }
-    ensures { IfOk result (λ ps. ps ≡ placed params.now names.now) }
-{
-    let mut places = Sequence::new(alloc);
-    for (i, param) in params.iter().enumerate() {
-        places.push(Place {
-            way: param.way,
-            name: names[i].copy(),
-        })?;
-    }
-    Ok(places)
 }
 
 fn writes(way: Way) -> bool
@@ -150,100 +104,168 @@ fn are_written_once(places: &[Place]) -> bool
     true
 }
 
-// The call with its operation's ways, where it is one of the interface.
-#[tactic(auto, unfolding(crate::specs::Forms::resolved))]
-fn resolve(
+fn literal_of(e: &Expr) -> Option<&[u8]>
+    ensures { option_copied result ≡ literal_of (term_of e.now) }
+{
+    match e {
+        Expr::Lit { line: _, s } => Some(s.as_slice()),
+        Expr::Num { line: _, v: _ } => None,
+        Expr::Name { id: _ } => None,
+        Expr::Atoi { e: _ } => None,
+        Expr::Strcmp { a: _, b: _ } => None,
+        Expr::Neg { e: _ } => None,
+        Expr::Not { e: _ } => None,
+        Expr::Two { op: _, a: _, b: _ } => None,
+    }
+}
+
+// The name that an argument writes out.
+fn file_named(e: &Expr) -> Option<Name>
+    ensures { result ≡ file_named (term_of e.now) }
+{
+    match literal_of(e) {
+        Some(s) => match Name::read(s) {
+            Ok(name) => Some(name),
+            Err(_) => None,
+        },
+        None => None,
+    }
+}
+
+fn place_for(dir: Dir, kind: Kind, argument: &Argument) -> Option<Place>
+    ensures { (p : Param) → p.dir ≡ dir → p.kind ≡ kind → result ≡ place_for p (passed_of argument.now) }
+{
+    match kind {
+        Kind::File => match file_named(&argument.e) {
+            Some(name) => Some(Place {
+                way: way_of(dir),
+                name,
+            }),
+            None => None,
+        },
+        Kind::Int => None,
+        Kind::Str => None,
+    }
+}
+
+// The places of a call that has an argument for each parameter.
+fn places_for(
     alloc: Global,
-    call: (Blob, Sequence<Name>),
+    idl: &Idl,
+    op: u8,
+    args: &[Argument],
+) -> Result<Option<Sequence<Place>>, NoMemory>
+    requires { (o : Op) × (slice_get idl.now.ops op ≡ Some o) × (length args.now ≡ length o.params) × (length args.now < 256) }
+    ensures { IfOk result (λ places. (o : Op) → slice_get idl.now.ops op ≡ Some o → places ≡ places_for o.params (map passed_of args.now)) }
+{
+    let mut places = Sequence::new(alloc);
+    for j in 0..args.len() {
+        let (dir, kind) = idl.param(op, j as u8);
+        match place_for(dir, kind, &args[j]) {
+            Some(place) => places.push(place)?,
+            None => return Ok(None),
+        }
+    }
+    Ok(Some(places))
+}
+
+fn is_sound(places: &[Place], idl_name: &Name, program_name: &Name) -> bool
+    ensures { result ≡ is_sound idl_name.now program_name.now places.now }
+{
+    !has_text(places, idl_name, program_name) && are_written_once(places)
+}
+
+fn step_for(
+    alloc: Global,
     idl: &Idl,
     idl_name: &Name,
     program_name: &Name,
-) -> Result<Step, Failure>
-    ensures { Finds result (resolved idl.now idl_name.now program_name.now call) }
+    op: &Ident,
+    args: &[Argument],
+) -> Result<Option<Step>, NoMemory>
+    ensures { IfOk result (λ step. step ≡ step_for idl.now.ops idl_name.now program_name.now (name_of op.now) (map passed_of args.now)) }
 {
-    let (op, names) = call;
-    let operation = match find_operation(idl, &op) {
-        Some(operation) => operation,
-        None => return Err(Failure::NotForm),
+    let Some(i) = place_of(idl, &op.name) else {
+        return Ok(None);
     };
-    if operation.params.len() != names.len() {
-        return Err(Failure::NotForm);
+    if args.len() != idl.param_count(i) as usize {
+        return Ok(None);
     }
-    let places = place_all(alloc, operation.params.items(), names.items())?;
-    if has_text(places.items(), idl_name, program_name) || !are_written_once(places.items()) {
-        return Err(Failure::NotForm);
+    let Some(places) = places_for(alloc, idl, i, args)? else {
+        return Ok(None);
+    };
+    if !is_sound(places.items(), idl_name, program_name) {
+        return Ok(None);
     }
-    Ok(Step { op, places })
+    Ok(Some(Step {
+        op: Blob::copy(alloc, &op.name)?,
+        places,
+    }))
 }
 
-#[tactic(auto, unfolding(crate::specs::Forms::step))]
-fn next_step(
+// The statement as a call with files alone.
+fn code_step(
     alloc: Global,
-    cursor: &mut Cursor,
     idl: &Idl,
     idl_name: &Name,
     program_name: &Name,
-) -> Result<Step, Failure>
-    ensures { Gives (λ x. x) cursor.new result ((step idl.now idl_name.now program_name.now).read cursor.old) }
+    statement: &Stmt,
+) -> Result<Option<Step>, NoMemory>
+    ensures { IfOk result (λ step. step ≡ code_step idl.now.ops idl_name.now program_name.now (code_of statement.now)) }
 {
-    let call = next_call(alloc, cursor)?;
-    let step = resolve(alloc, call, idl, idl_name, program_name)?;
-    Ok(step)
+    match statement {
+        Stmt::Call { op, args } => step_for(alloc, idl, idl_name, program_name, op, args),
+        _ => Ok(None),
+    }
 }
 
-fn next_steps(
+fn steps_for(
     alloc: Global,
-    cursor: &mut Cursor,
     idl: &Idl,
     idl_name: &Name,
     program_name: &Name,
-) -> Result<Sequence<Step>, Failure>
-    ensures { Gives (λ x. x) cursor.new result (listed_at (step idl.now idl_name.now program_name.now) (codes "    GS_Off(0);\n}\n") 1001 cursor.old) }
+    body: &[Stmt],
+) -> Result<Option<Sequence<Step>>, NoMemory>
+    ensures { IfOk result (λ steps. steps ≡ steps_for idl.now.ops idl_name.now program_name.now (codes_of body.now)) }
 {
     let mut steps = Sequence::new(alloc);
-    for _ in 0..1001u32 {
-        if cursor.skip(b"    GS_Off(0);\n}\n") {
-            return Ok(steps);
+    for statement in body {
+        match code_step(alloc, idl, idl_name, program_name, statement)? {
+            Some(step) => steps.push(step)?,
+            None => return Ok(None),
         }
-        let item = next_step(alloc, cursor, idl, idl_name, program_name)?;
-        steps.push(item)?;
     }
-    Err(Failure::NotForm)
+    Ok(Some(steps))
 }
 
-#[tactic(auto, unfolding(crate::specs::Forms::program))]
-fn whole_program(
-    alloc: Global,
-    bytes: &[u8],
-    idl: &Idl,
-    idl_name: &Name,
-    program_name: &Name,
-) -> Result<Sequence<Step>, Failure>
-    ensures { Finds result (whole (program idl.now idl_name.now program_name.now) bytes.now) }
+fn is_bare(tree: &Tree) -> bool
+    ensures { result ≡ is_bare (program_of tree.now) }
 {
-    let mut cursor = Cursor::new(bytes);
-    cursor.literal(b"main() {\n    GS_On();\n")?;
-    let steps = next_steps(alloc, &mut cursor, idl, idl_name, program_name)?;
-    if !cursor.rest().is_empty() {
-        return Err(Failure::NotForm);
-    }
-    Ok(steps)
+    tree.vars.is_empty() && tree.first.is_empty()
 }
 
-/// Reads a program text in the straight form, of at most 65,536 bytes and 1,000 calls. `None` exactly where
-/// the bytes spell no valid calls of the interface. The only error is want of memory.
-pub fn read_program(
+/// The calls of a program that declares nothing and holds nothing but task calls, at most 10,000, of operations with
+/// File parameters alone, each argument a Name in quotes, where no call writes one of the two texts or one file twice;
+/// `None` exactly where the program is none such. The only error is want of memory.
+#[tactic(auto, unfolding(crate::specs::Straight::straight_calls))]
+pub fn straight_calls(
     alloc: Global,
-    bytes: &[u8],
+    tree: &Tree,
     idl: &Idl,
     idl_name: &Name,
     program_name: &Name,
 ) -> Result<Option<Sequence<Step>>, NoMemory>
-    ensures says { IfOk result (λ o. IfSome o (λ s. SaysProgram bytes.now idl.now idl_name.now program_name.now s)) }
-    ensures exact { IfOk result (λ o. (s : List Step) → SaysProgram bytes.now idl.now idl_name.now program_name.now s → o ≡ Some s) }
+    ensures calls { IfOk result (λ steps. steps ≡ straight_calls idl.now idl_name.now program_name.now (program_of tree.now)) }
+    ensures few { IfOk result (λ steps. IfSome steps (λ s. length s ≤ 10000)) }
 {
-    if bytes.len() > 65536 {
+    if !is_bare(tree) {
         return Ok(None);
     }
-    settle(whole_program(alloc, bytes, idl, idl_name, program_name))
+    let Some(steps) = steps_for(alloc, idl, idl_name, program_name, &tree.body)? else {
+        return Ok(None);
+    };
+    if steps.len() > MAX_CALLS {
+        return Ok(None);
+    }
+    Ok(Some(steps))
 }

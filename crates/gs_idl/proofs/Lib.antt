@@ -12,6 +12,6 @@ mod Ideal
 mod Extends
 mod Faults
 mod OneText
-mod Saying
+pub mod Saying
 mod Naming
 mod ReadsBack

@@ -41,27 +41,9 @@ operand_stops s d g view line here next first fits = stop_unfit a_term _ _ view 
 pub operand_ends : {A : Type 0} (d g : ℕ) (view : A → Lined) (here : List Mark) → here ≡ [] → Reads a_term (rule (level 0 d g)) view here (Err Unfit) here
 operand_ends d g view here none_left = stop_unfit a_term _ _ view here (ap (next_fit (begins_operand d g)) none_left)
 
-operand_deep : {A : Type 0} (s : Sign) (d g : ℕ) (view : A → Lined) (line : ℕ) (here next : List Mark) → here ≡ at_line line s ∷ next → operand_fit d g s ≡ too_deep → Reads a_term (rule (level 0 d g)) view here (Err TooDeep) here
+pub operand_deep : {A : Type 0} (s : Sign) (d g : ℕ) (view : A → Lined) (line : ℕ) (here next : List Mark) → here ≡ at_line line s ∷ next → operand_fit d g s ≡ too_deep → Reads a_term (rule (level 0 d g)) view here (Err TooDeep) here
 unfolding begins_operand
 operand_deep s d g view line here next first fits = stop_deep a_term _ _ view here (ap (next_fit (begins_operand d g)) first ∙ fits)
-
-first_symbol : (s t : Symbol) (line : ℕ) (here next : List Mark) → s ≡ t → here ≡ at_line line (sign_of_symbol s) ∷ next → here ≡ at_line line (sign_of_symbol t) ∷ next
-first_symbol s t line here next e h = h ∙ ap (λ z. at_line line (sign_of_symbol z) ∷ next) e
-
-first_keyword : (s t : Keyword) (line : ℕ) (here next : List Mark) → s ≡ t → here ≡ at_line line (sign_of_keyword s) ∷ next → here ≡ at_line line (sign_of_keyword t) ∷ next
-first_keyword s t line here next e h = h ∙ ap (λ z. at_line line (sign_of_keyword z) ∷ next) e
-
-pub by_symbol : {A : Type 0} (t s : Symbol) (d g : ℕ) (view : A → Lined) (line : ℕ) (here next : List Mark) (result : Result A Stop) (new : List Mark) → s ≡ t → here ≡ at_line line (sign_of_symbol s) ∷ next → operand_fit d g (sign_of_symbol t) ≡ fit → Reads a_term (operand d g (at_line line (sign_of_symbol t)) (sign_of_symbol t)) view next result new → Reads a_term (rule (level 0 d g)) view here result new
-by_symbol t s d g view line here next result new e h fits r = operand_by (sign_of_symbol t) d g view line here next result new (first_symbol s t line here next e h) fits r
-
-pub by_keyword : {A : Type 0} (t s : Keyword) (d g : ℕ) (view : A → Lined) (line : ℕ) (here next : List Mark) (result : Result A Stop) (new : List Mark) → s ≡ t → here ≡ at_line line (sign_of_keyword s) ∷ next → operand_fit d g (sign_of_keyword t) ≡ fit → Reads a_term (operand d g (at_line line (sign_of_keyword t)) (sign_of_keyword t)) view next result new → Reads a_term (rule (level 0 d g)) view here result new
-by_keyword t s d g view line here next result new e h fits r = operand_by (sign_of_keyword t) d g view line here next result new (first_keyword s t line here next e h) fits r
-
-pub deep_symbol : {A : Type 0} (t s : Symbol) (d g : ℕ) (view : A → Lined) (line : ℕ) (here next : List Mark) → s ≡ t → here ≡ at_line line (sign_of_symbol s) ∷ next → operand_fit d g (sign_of_symbol t) ≡ too_deep → Reads a_term (rule (level 0 d g)) view here (Err TooDeep) here
-deep_symbol t s d g view line here next e h fits = operand_deep (sign_of_symbol t) d g view line here next (first_symbol s t line here next e h) fits
-
-pub deep_keyword : {A : Type 0} (t s : Keyword) (d g : ℕ) (view : A → Lined) (line : ℕ) (here next : List Mark) → s ≡ t → here ≡ at_line line (sign_of_keyword s) ∷ next → operand_fit d g (sign_of_keyword t) ≡ too_deep → Reads a_term (rule (level 0 d g)) view here (Err TooDeep) here
-deep_keyword t s d g view line here next e h fits = operand_deep (sign_of_keyword t) d g view line here next (first_keyword s t line here next e h) fits
 
 pub no_symbol : (s : Symbol) (d g : ℕ) → s ≢ Minus → s ≢ Bang → s ≢ OpenParen → operand_fit d g (sign_of_symbol s) ≡ unfit
 no_symbol Minus d g a b c = absurd (a refl)

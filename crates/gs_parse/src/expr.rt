@@ -17,6 +17,102 @@ use gs_tree::Tokens;
 use gs_tree::sign::{Keyword, Sign, Symbol};
 use std::alloc::Global;
 
+// What follows `-`.
+#[cycle(expr)]
+fn negation(
+    alloc: Global,
+    tokens: &Tokens,
+    at: &mut usize,
+    depth: u32,
+    groups: u32,
+    line: u32,
+) -> Result<Operand, Stop>
+    requires depth { depth < 64 }
+    requires within { at.old < 2 ^ 64 - 1 }
+    requires stands { IsFirst line (sign_of_symbol Symbol.Minus) (left tokens.now at.old) (left tokens.now (at.old + 1)) }
+    ensures reads { Reads a_term (rule (level 0 depth groups)) (seen (left tokens.now at.old)) (left tokens.now at.old) result (left tokens.now at.new) }
+    ensures room { IfOk result (λ r. depth + r.height ≤ 64) }
+    ensures height { IfOk result (λ r. r.height ≡ height (term_of r.e)) }
+    ensures onward { at.old ≤ at.new }
+{
+    if depth + 1 >= LIMIT {
+        return Err(Stop::TooDeep);
+    }
+    *at += 1;
+    let a = match operand(alloc, tokens, at, depth + 1, groups) {
+        Ok(a) => a,
+        Err(stop) => return Err(stop),
+    };
+    match negated(alloc, a) {
+        Ok(a) => Ok(a),
+        Err(stop) => Err(stop),
+    }
+}
+
+// What follows `!`.
+#[cycle(expr)]
+fn inversion(
+    alloc: Global,
+    tokens: &Tokens,
+    at: &mut usize,
+    depth: u32,
+    groups: u32,
+    line: u32,
+) -> Result<Operand, Stop>
+    requires depth { depth < 64 }
+    requires within { at.old < 2 ^ 64 - 1 }
+    requires stands { IsFirst line (sign_of_symbol Symbol.Bang) (left tokens.now at.old) (left tokens.now (at.old + 1)) }
+    ensures reads { Reads a_term (rule (level 0 depth groups)) (seen (left tokens.now at.old)) (left tokens.now at.old) result (left tokens.now at.new) }
+    ensures room { IfOk result (λ r. depth + r.height ≤ 64) }
+    ensures height { IfOk result (λ r. r.height ≡ height (term_of r.e)) }
+    ensures onward { at.old ≤ at.new }
+{
+    if depth + 1 >= LIMIT {
+        return Err(Stop::TooDeep);
+    }
+    *at += 1;
+    let a = match operand(alloc, tokens, at, depth + 1, groups) {
+        Ok(a) => a,
+        Err(stop) => return Err(stop),
+    };
+    match inverted(alloc, a) {
+        Ok(a) => Ok(a),
+        Err(stop) => Err(stop),
+    }
+}
+
+// What stands in parentheses.
+#[cycle(expr)]
+fn grouping(
+    alloc: Global,
+    tokens: &Tokens,
+    at: &mut usize,
+    depth: u32,
+    groups: u32,
+    line: u32,
+) -> Result<Operand, Stop>
+    requires depth { depth < 64 }
+    requires within { at.old < 2 ^ 64 - 1 }
+    requires stands { IsFirst line (sign_of_symbol Symbol.OpenParen) (left tokens.now at.old) (left tokens.now (at.old + 1)) }
+    ensures reads { Reads a_term (rule (level 0 depth groups)) (seen (left tokens.now at.old)) (left tokens.now at.old) result (left tokens.now at.new) }
+    ensures room { IfOk result (λ r. depth + r.height ≤ 64) }
+    ensures height { IfOk result (λ r. r.height ≡ height (term_of r.e)) }
+    ensures onward { at.old ≤ at.new }
+{
+    if groups >= LIMIT {
+        return Err(Stop::TooDeep);
+    }
+    *at += 1;
+    let a = match binary(alloc, tokens, at, 6, depth, groups + 1) {
+        Ok(a) => a,
+        Err(stop) => return Err(stop),
+    };
+    match expect(tokens, at, Word::Symbol(Symbol::CloseParen)) {
+        Ok(()) => Ok(a),
+        Err(stop) => Err(stop),
+    }
+}
+
 // What follows `-` or `!`, or stands in parentheses.
 #[cycle(expr)]
 fn prefixed(
@@ -37,49 +133,98 @@ fn prefixed(
     ensures onward { at.old ≤ at.new }
 {
     match symbol {
-        Symbol::Minus => {
-            if depth + 1 >= LIMIT {
-                return Err(Stop::TooDeep);
-            }
-            *at += 1;
-            let a = match operand(alloc, tokens, at, depth + 1, groups) {
-                Ok(a) => a,
-                Err(stop) => return Err(stop),
-            };
-            match negated(alloc, a) {
-                Ok(a) => Ok(a),
-                Err(stop) => Err(stop),
-            }
-        }
-        Symbol::Bang => {
-            if depth + 1 >= LIMIT {
-                return Err(Stop::TooDeep);
-            }
-            *at += 1;
-            let a = match operand(alloc, tokens, at, depth + 1, groups) {
-                Ok(a) => a,
-                Err(stop) => return Err(stop),
-            };
-            match inverted(alloc, a) {
-                Ok(a) => Ok(a),
-                Err(stop) => Err(stop),
-            }
-        }
-        Symbol::OpenParen => {
-            if groups >= LIMIT {
-                return Err(Stop::TooDeep);
-            }
-            *at += 1;
-            let a = match binary(alloc, tokens, at, 6, depth, groups + 1) {
-                Ok(a) => a,
-                Err(stop) => return Err(stop),
-            };
-            match expect(tokens, at, Word::Symbol(Symbol::CloseParen)) {
-                Ok(()) => Ok(a),
-                Err(stop) => Err(stop),
-            }
-        }
+        Symbol::Minus => negation(alloc, tokens, at, depth, groups, line),
+        Symbol::Bang => inversion(alloc, tokens, at, depth, groups, line),
+        Symbol::OpenParen => grouping(alloc, tokens, at, depth, groups, line),
         _ => Err(Stop::Unfit),
+    }
+}
+
+// A call of `atoi`.
+#[cycle(expr)]
+fn atoi_call(
+    alloc: Global,
+    tokens: &Tokens,
+    at: &mut usize,
+    depth: u32,
+    groups: u32,
+    line: u32,
+) -> Result<Operand, Stop>
+    requires depth { depth < 64 }
+    requires within { at.old < 2 ^ 64 - 1 }
+    requires stands { IsFirst line (sign_of_keyword Keyword.Atoi) (left tokens.now at.old) (left tokens.now (at.old + 1)) }
+    ensures reads { Reads a_term (rule (level 0 depth groups)) (seen (left tokens.now at.old)) (left tokens.now at.old) result (left tokens.now at.new) }
+    ensures room { IfOk result (λ r. depth + r.height ≤ 64) }
+    ensures height { IfOk result (λ r. r.height ≡ height (term_of r.e)) }
+    ensures onward { at.old ≤ at.new }
+{
+    if depth + 1 >= LIMIT {
+        return Err(Stop::TooDeep);
+    }
+    *at += 1;
+    match expect(tokens, at, Word::Symbol(Symbol::OpenParen)) {
+        Ok(()) => {}
+        Err(stop) => return Err(stop),
+    }
+    let a = match binary(alloc, tokens, at, 6, depth + 1, groups) {
+        Ok(a) => a,
+        Err(stop) => return Err(stop),
+    };
+    match expect(tokens, at, Word::Symbol(Symbol::CloseParen)) {
+        Ok(()) => {}
+        Err(stop) => return Err(stop),
+    }
+    match atoi_of(alloc, a) {
+        Ok(a) => Ok(a),
+        Err(stop) => Err(stop),
+    }
+}
+
+// A call of `strcmp`.
+#[cycle(expr)]
+fn strcmp_call(
+    alloc: Global,
+    tokens: &Tokens,
+    at: &mut usize,
+    depth: u32,
+    groups: u32,
+    line: u32,
+) -> Result<Operand, Stop>
+    requires depth { depth < 64 }
+    requires within { at.old < 2 ^ 64 - 1 }
+    requires stands { IsFirst line (sign_of_keyword Keyword.Strcmp) (left tokens.now at.old) (left tokens.now (at.old + 1)) }
+    ensures reads { Reads a_term (rule (level 0 depth groups)) (seen (left tokens.now at.old)) (left tokens.now at.old) result (left tokens.now at.new) }
+    ensures room { IfOk result (λ r. depth + r.height ≤ 64) }
+    ensures height { IfOk result (λ r. r.height ≡ height (term_of r.e)) }
+    ensures onward { at.old ≤ at.new }
+{
+    if depth + 1 >= LIMIT {
+        return Err(Stop::TooDeep);
+    }
+    *at += 1;
+    match expect(tokens, at, Word::Symbol(Symbol::OpenParen)) {
+        Ok(()) => {}
+        Err(stop) => return Err(stop),
+    }
+    let a = match binary(alloc, tokens, at, 6, depth + 1, groups) {
+        Ok(a) => a,
+        Err(stop) => return Err(stop),
+    };
+    match expect(tokens, at, Word::Symbol(Symbol::Comma)) {
+        Ok(()) => {}
+        Err(stop) => return Err(stop),
+    }
+    let b = match binary(alloc, tokens, at, 6, depth + 1, groups) {
+        Ok(b) => b,
+        Err(stop) => return Err(stop),
+    };
+    match expect(tokens, at, Word::Symbol(Symbol::CloseParen)) {
+        Ok(()) => {}
+        Err(stop) => return Err(stop),
+    }
+    match strcmp_of(alloc, a, b) {
+        Ok(a) => Ok(a),
+        Err(stop) => Err(stop),
     }
 }
 
@@ -103,58 +248,8 @@ fn called(
     ensures onward { at.old ≤ at.new }
 {
     match keyword {
-        Keyword::Atoi => {
-            if depth + 1 >= LIMIT {
-                return Err(Stop::TooDeep);
-            }
-            *at += 1;
-            match expect(tokens, at, Word::Symbol(Symbol::OpenParen)) {
-                Ok(()) => {}
-                Err(stop) => return Err(stop),
-            }
-            let a = match binary(alloc, tokens, at, 6, depth + 1, groups) {
-                Ok(a) => a,
-                Err(stop) => return Err(stop),
-            };
-            match expect(tokens, at, Word::Symbol(Symbol::CloseParen)) {
-                Ok(()) => {}
-                Err(stop) => return Err(stop),
-            }
-            match atoi_of(alloc, a) {
-                Ok(a) => Ok(a),
-                Err(stop) => Err(stop),
-            }
-        }
-        Keyword::Strcmp => {
-            if depth + 1 >= LIMIT {
-                return Err(Stop::TooDeep);
-            }
-            *at += 1;
-            match expect(tokens, at, Word::Symbol(Symbol::OpenParen)) {
-                Ok(()) => {}
-                Err(stop) => return Err(stop),
-            }
-            let a = match binary(alloc, tokens, at, 6, depth + 1, groups) {
-                Ok(a) => a,
-                Err(stop) => return Err(stop),
-            };
-            match expect(tokens, at, Word::Symbol(Symbol::Comma)) {
-                Ok(()) => {}
-                Err(stop) => return Err(stop),
-            }
-            let b = match binary(alloc, tokens, at, 6, depth + 1, groups) {
-                Ok(b) => b,
-                Err(stop) => return Err(stop),
-            };
-            match expect(tokens, at, Word::Symbol(Symbol::CloseParen)) {
-                Ok(()) => {}
-                Err(stop) => return Err(stop),
-            }
-            match strcmp_of(alloc, a, b) {
-                Ok(a) => Ok(a),
-                Err(stop) => Err(stop),
-            }
-        }
+        Keyword::Atoi => atoi_call(alloc, tokens, at, depth, groups, line),
+        Keyword::Strcmp => strcmp_call(alloc, tokens, at, depth, groups, line),
         _ => Err(Stop::Unfit),
     }
 }

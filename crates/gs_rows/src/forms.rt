@@ -23,13 +23,18 @@ fn a_near_miss_of_a_text_names_it(rt: HostRuntime) -> Result<(), Fail> {
     let alloc = rt.alloc();
     let mut text = Vec::new(alloc);
     // which text, and the bytes from one place to another that are put in place of its own
-    let cases: [(u8, usize, usize, &[u8], &[u8]); 8] = [
-        (0, 9, 10, b"  ", b"gs: bad text: k.idl:0: NotYet\n"),
-        (0, 15, 16, b"\r\n", b"gs: bad text: k.idl:0: NotYet\n"),
-        (0, 67, 68, b"", b"gs: bad text: k.idl:0: NotYet\n"),
-        (1, 6, 8, b"  {", b"gs: bad text: p.c:0: NotYet\n"),
-        (1, 26, 30, b"move", b"gs: bad text: p.c:0: NotYet\n"),
-        (1, 63, 64, b"", b"gs: bad text: p.c:0: NotYet\n"),
+    let cases: [(u8, usize, usize, &[u8], &[u8]); 7] = [
+        (0, 9, 10, b"", b"gs: bad text: k.idl:1: Unexpected\n"),
+        (
+            0,
+            20,
+            24,
+            b"\r\nvoids",
+            b"gs: bad text: k.idl:3: Unexpected\n",
+        ),
+        (1, 0, 4, b"mein", b"gs: bad text: p.c:1: Unexpected\n"),
+        (1, 26, 30, b"/*\n*/move", b"gs: bad text: p.c:4: Unknown\n"),
+        (1, 62, 63, b"", b"gs: bad text: p.c:6: Unexpected\n"),
         (2, 3, 4, b"0", b"gs: bad text: w.txt:0: NotYet\n"),
         (2, 3, 4, b"10", b"gs: bad text: w.txt:0: NotYet\n"),
     ];

@@ -10,6 +10,8 @@ mod forms;
 #[cfg(test)]
 mod generated;
 #[cfg(test)]
+mod readers;
+#[cfg(test)]
 mod real;
 #[cfg(test)]
 mod rows;

@@ -5,8 +5,8 @@ use Rattle.std.proofs.lemmas.Slice.Eq.{bytes_eq-Decides}
 use Rattle.gs_types.specs.declared.memory.NoMemory.{NoMemory}
 use Rattle.gs_types.specs.declared.value.Value.{Value}
 use Rattle.gs_types.specs.declared.value.Value.TheVariants.{File}
-use Rattle.gs_form.specs.declared.idl.Way.{Way}
-use Rattle.gs_form.specs.declared.idl.Way.TheVariants.{Reads, Changes, Makes}
+use Rattle.gs_form.specs.declared.program.Way.{Way}
+use Rattle.gs_form.specs.declared.program.Way.TheVariants.{Reads, Changes, Makes}
 use Rattle.gs_form.specs.declared.program.Place.{Place}
 use Rattle.gs_disk.specs.Folder.{Folder}
 use Rattle.gs_run.specs.Calls.{with_file, at_place, with_outs}

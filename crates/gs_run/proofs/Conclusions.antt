@@ -12,17 +12,17 @@ use Rattle.gs_run.specs.Files.{over, content_of}
 use Rattle.gs_run.specs.Judging.{JudgeEnds, JudgeTold}
 use Rattle.gs_run.specs.Ran.{SomeRun, Cause, IsServed, Judged, Left, OthersStay, Happened, Done, DoneAt, Ran}
 use Rattle.gs_run.specs.Reading.{Keeps, WrittenBefore}
-use Rattle.gs_run.specs.Served.{Served, FirstAbsent, FirstOutside}
+use Rattle.gs_run.specs.Served.{Served, FirstAbsent, Refused, wrong, no_calls, no_worker}
 use Rattle.gs_run.specs.Stop.{status_of}
-use Rattle.gs_run.specs.Words.{IsRun, IsUsage, FitsAt}
-use Rattle.std.specs.Prelude.{codes, MatchOption}
-use Rattle.std.specs.List.{slice_get}
-use Rattle.gs_types.specs.Name.{IsName}
-use Rattle.std.proofs.Common.{◌<◌}
+use Rattle.gs_run.specs.Words.{IsRun, IsUsage}
+use Rattle.std.specs.Prelude.{codes}
 use Rattle.gs_run.specs.declared.judge.Plan.{Plan}
 use Rattle.gs_run.specs.declared.stop.Stop.{Stop}
-use Rattle.gs_run.specs.declared.stop.Stop.TheVariants.{Usage, NoText, NotYet, Lost, Disk, Memory}
+use Rattle.gs_run.specs.declared.stop.Stop.TheVariants.{Usage, NoText, BadText, Lost, Disk, Sink, Memory}
+use Rattle.gs_run.specs.declared.kinds.TextKind.{TextKind}
 use Rattle.gs_run.proofs.Histories.{runs_fine}
+use Rattle.gs_run.proofs.Verdicts.{not_wrong}
+use Rattle.gs_run.proofs.Wording.{no_usage}
 
 nothing_happened : (tells : History → Type 0) (past : History) (answer : Result Unit Stop) → failure_in [] ≡ Rattle.gs_run.specs.Ran.lost_in answer → Rattle.gs_run.specs.Ran.IsQuiet answer [] → tells past → Happened tells past answer
 nothing_happened tells past answer failure quiet told = record { events = []; told = told; failure = failure; quiet = quiet }
@@ -45,6 +45,7 @@ pub ran_judged : (told : Type 0) (old new : DiskState) (law : Meaning) (tells : 
     → Ran told old new law tells tells faults faults words (Err stop)
 ran_judged told old new law tells faults words i p w (Usage at) run ends judged same = absurd ends
 ran_judged told old new law tells faults words i p w (Lost n) run ends judged same = absurd ends
+ran_judged told old new law tells faults words i p w Sink run ends judged same = absurd ends
 ran_judged told old new law tells faults words i p w (NoText name) run ends judged same = record {
   cause = (i, p, w, run, tt);
   judged = λ t. (i, p, w, run, judged t);
@@ -52,11 +53,11 @@ ran_judged told old new law tells faults words i p w (NoText name) run ends judg
   happened = λ past h. nothing_happened tells past (Err (NoText name)) refl refl h;
   done = λ t past h. tt;
 }
-ran_judged told old new law tells faults words i p w (NotYet name) run ends judged same = record {
+ran_judged told old new law tells faults words i p w (BadText name line kind) run ends judged same = record {
   cause = (i, p, w, run, tt);
   judged = λ t. (i, p, w, run, judged t);
   left = λ t. stays old.folder new.folder (same t);
-  happened = λ past h. nothing_happened tells past (Err (NotYet name)) refl refl h;
+  happened = λ past h. nothing_happened tells past (Err (BadText name line kind)) refl refl h;
   done = λ t past h. tt;
 }
 ran_judged told old new law tells faults words i p w Disk run ends judged same = record {
@@ -180,19 +181,6 @@ ran_done told old mid new law tells_old tells_new link_old link_new words i p w 
 
 -- ---- words and texts of the form and no rise of a count give 0 or 12
 
-fits_at : (at : ℕ) (i p w : List ℕ) → IsName i → IsName p → IsName w → at ≤ 4 → MatchOption (slice_get (codes "run" ∷ i ∷ p ∷ w ∷ []) at) (4 < 4) (λ v. FitsAt at v → ⊥) → ⊥
-fits_at zero i p w ni np nw le here = here refl
-fits_at (suc zero) i p w ni np nw le here = here (omega arith, ni)
-fits_at (suc (suc zero)) i p w ni np nw le here = here (omega arith, np)
-fits_at (suc (suc (suc zero))) i p w ni np nw le here = here (omega arith, nw)
-fits_at (suc (suc (suc (suc zero)))) i p w ni np nw le here = omega arith
-fits_at (suc (suc (suc (suc (suc k))))) i p w ni np nw le here = omega arith
-
-no_usage : (words : List (List ℕ)) (i p w : List ℕ) (at : ℕ) → IsRun words i p w → IsUsage words at → ⊥
-no_usage words i p w at run usage =
-    let u : IsUsage (codes "run" ∷ i ∷ p ∷ w ∷ []) at = subst (λ (ws : List (List ℕ)). IsUsage ws at) run.words_are usage in
-    fits_at at i p w run.idl_name run.program_name run.workers_name (omega (arith, u.within)) u.here
-
 record SameNames (i p w i' p' w' : List ℕ) : Type 0 where
   pub idl : i ≡ i'
   pub program : p ≡ p'
@@ -212,14 +200,14 @@ some_none : (o : Option (List ℕ)) (b : List ℕ) → o ≡ Some b → o ≡ No
 some_none o b s n = let e : Some b ≡ None = sym s ∙ n in absurd cc
 
 served_present : (folder : Folder) (i p w name : List ℕ) (steps : List Step) (worker : Worker) → Served folder i p w steps worker → FirstAbsent folder i p w name → ⊥
-served_present folder i p w name steps worker s (inl a) = some_none (folder i) s.calls.interface.text s.calls.interface.there a.1
-served_present folder i p w name steps worker s (inr (inl a)) = some_none (folder p) s.calls.text s.calls.there a.2
+served_present folder i p w name steps worker s (inl a) = some_none (folder i) s.calls.texts.interface.text s.calls.texts.interface.there a.1
+served_present folder i p w name steps worker s (inr (inl a)) = some_none (folder p) s.calls.texts.program.text s.calls.texts.program.there a.2
 served_present folder i p w name steps worker s (inr (inr a)) = some_none (folder w) s.list.text s.list.there a.3
 
-served_inside : (folder : Folder) (i p w name : List ℕ) (steps : List Step) (worker : Worker) → Served folder i p w steps worker → FirstOutside folder i p w name → ⊥
-served_inside folder i p w name steps worker s (inl a) = a.1 s.calls.idl s.calls.interface
-served_inside folder i p w name steps worker s (inr (inl a)) = a.2 steps s.calls
-served_inside folder i p w name steps worker s (inr (inr a)) = a.2 worker s.list
+served_inside : (folder : Folder) (i p w name : List ℕ) (line : ℕ) (k : TextKind) (steps : List Step) (worker : Worker) → Served folder i p w steps worker → Refused folder i p w name line k → ⊥
+served_inside folder i p w name line k steps worker s (wrong name1 line1 k1 h) = not_wrong (folder i) (folder p) i p name line k s.calls.interface s.calls.program s.calls.texts h
+served_inside folder i p w name line k steps worker s (no_calls i1 p1 both none) = none steps s.calls
+served_inside folder i p w name line k steps worker s (no_worker steps1 calls none) = none worker s.list
 
 moved : (folder : Folder) (i p w i' p' w' : List ℕ) (steps : List Step) (worker : Worker) → SameNames i p w i' p' w' → Served folder i p w steps worker → Served folder i' p' w' steps worker
 moved folder i p w i' p' w' steps worker same s =
@@ -227,13 +215,14 @@ moved folder i p w i' p' w' steps worker same s =
 
 pub zero_or_twelve : (told : Type 0) (old new : DiskState) (law : Meaning) (tells_old tells_new : History → Type 0) (link_old link_new : ℕ) (words : List (List ℕ)) (stop : Stop) → Ran told old new law tells_old tells_new link_old link_new words (Err stop) → told → IsServed words old.folder (λ steps worker. Unit {0})
     → (Rises old.faults new.faults → ⊥) → (Rises link_old link_new → ⊥) → (status_of (Err stop) ≡ 0) ⊎ (status_of (Err stop) ≡ 12)
-zero_or_twelve told old new law tells_old tells_new link_old link_new words (Usage at) ran t s disk link = absurd (no_usage words s.0 s.1 s.2 at s.3 ran.cause)
+zero_or_twelve told old new law tells_old tells_new link_old link_new words (Usage at) ran t s disk link = absurd (no_usage words at (inl (s.0, s.1, s.2, s.3)) ran.cause)
 zero_or_twelve told old new law tells_old tells_new link_old link_new words (NoText name) ran t s disk link =
     let j = ran.judged t in
     absurd (served_present old.folder j.0 j.1 j.2 name s.4.0 s.4.1 (moved old.folder s.0 s.1 s.2 j.0 j.1 j.2 s.4.0 s.4.1 (same_names words s.0 s.1 s.2 j.0 j.1 j.2 s.3 j.3) s.4.2) j.4)
-zero_or_twelve told old new law tells_old tells_new link_old link_new words (NotYet name) ran t s disk link =
+zero_or_twelve told old new law tells_old tells_new link_old link_new words (BadText name line kind) ran t s disk link =
     let j = ran.judged t in
-    absurd (served_inside old.folder j.0 j.1 j.2 name s.4.0 s.4.1 (moved old.folder s.0 s.1 s.2 j.0 j.1 j.2 s.4.0 s.4.1 (same_names words s.0 s.1 s.2 j.0 j.1 j.2 s.3 j.3) s.4.2) j.4.1)
+    absurd (served_inside old.folder j.0 j.1 j.2 name line kind s.4.0 s.4.1 (moved old.folder s.0 s.1 s.2 j.0 j.1 j.2 s.4.0 s.4.1 (same_names words s.0 s.1 s.2 j.0 j.1 j.2 s.3 j.3) s.4.2) j.4.1)
 zero_or_twelve told old new law tells_old tells_new link_old link_new words (Lost n) ran t s disk link = absurd (link ran.cause.1)
 zero_or_twelve told old new law tells_old tells_new link_old link_new words Disk ran t s disk link = absurd (disk ran.cause.1)
+zero_or_twelve told old new law tells_old tells_new link_old link_new words Sink ran t s disk link = absurd ran.cause
 zero_or_twelve told old new law tells_old tells_new link_old link_new words Memory ran t s disk link = inr refl

@@ -4,7 +4,7 @@ use Rattle.std.proofs.lemmas.List.{take_more, take_all}
 use Rattle.std.proofs.lemmas.Bool.{cases_lt}
 use Rattle.std.specs.Prelude.{Any}
 use Rattle.std.specs.List.{slice_get}
-use Rattle.gs_form.specs.declared.idl.Way.TheVariants.{Makes}
+use Rattle.gs_form.specs.declared.program.Way.TheVariants.{Makes}
 use Rattle.gs_form.specs.declared.program.Place.{Place}
 use Rattle.gs_form.specs.declared.program.Step.{Step}
 use Rattle.gs_disk.specs.Folder.{Folder}

@@ -5,8 +5,8 @@ use Rattle.std.specs.Prelude.{Any, slice_index_or, bytes_eq, if◌then◌else◌
 use Rattle.gs_types.specs.declared.value.Value.{Value}
 use Rattle.gs_types.specs.declared.value.Value.TheVariants.{Int, Str, File}
 use Rattle.gs_types.specs.declared.job.Arg.{Arg}
-use Rattle.gs_form.specs.declared.idl.Way.{Way}
-use Rattle.gs_form.specs.declared.idl.Way.TheVariants.{Reads, Changes, Makes}
+use Rattle.gs_form.specs.declared.program.Way.{Way}
+use Rattle.gs_form.specs.declared.program.Way.TheVariants.{Reads, Changes, Makes}
 use Rattle.gs_form.specs.declared.program.Place.{Place}
 use Rattle.gs_form.specs.declared.program.Step.{Step}
 use Rattle.gs_disk.specs.Folder.{Folder}

@@ -1,71 +1,67 @@
 -- What the texts of a run say.
-use Rattle.std.proofs.Common.{◌≡◌, ℕ, ◌<◌, ◌≤◌, List, length, Option, Some, None, MatchOption, refl, sym, ◌∙◌, subst, inl, inr, arith}
+use Rattle.std.proofs.Common.{◌≡◌, ℕ, List, Option, Some, None, sym, ◌∙◌, subst, arith}
 use Rattle.gs_disk.specs.Folder.{Folder}
-use Rattle.gs_form.specs.Idl.{SaysIdl}
-use Rattle.gs_form.specs.Program.{SaysProgram}
-use Rattle.gs_form.specs.Worker.{SaysWorker}
-use Rattle.gs_form.specs.declared.idl.Idl.{Idl}
+use Rattle.gs_idl.specs.Interface.{Interface}
+use Rattle.gs_idl.specs.Grammar as idl
+use Rattle.gs_idl.proofs.Saying.{says_one}
+use Rattle.gs_tree.specs.Program.{Program}
+use Rattle.gs_parse.specs.Faulty.{IsText}
+use Rattle.gs_parse.proofs.Texts.{one_program, says_or_fails}
+use Rattle.gs_check.specs.Faults.{fault_of}
+use Rattle.gs_form.specs.Straight.{straight_calls}
 use Rattle.gs_form.specs.declared.program.Step.{Step}
-use Rattle.gs_form.specs.declared.worker.Worker.{Worker}
-use Rattle.gs_run.specs.Judging.{IsTextOf}
 use Rattle.gs_run.specs.Reading.{Readable}
-use Rattle.gs_run.specs.Served.{HasIdl, HasCalls, Served, FirstOutside}
-use Rattle.gs_run.specs.Texts.{Gives}
-use Rattle.gs_run.specs.declared.texts.Text.{Text}
-use Rattle.gs_run.specs.declared.texts.Text.TheVariants.{Absent, Long, Read}
+use Rattle.gs_run.specs.Served.{HasCalls, Refused, no_calls}
+use Rattle.gs_run.specs.Texts.{HasInterface, HasProgram, HasBoth, IsWrong, interface, program, checks}
+use Rattle.gs_run.specs.declared.kinds.TextKind.{TextKind}
+use Rattle.gs_run.specs.declared.kinds.TextKind.TheVariants.{NotYet}
 
 some_is : {A : Type 0} (x y : A) → Some x ≡ Some y → x ≡ y
 some_is x y e = cc
 
--- a text says one thing
-pub record Says1 {T : Type 0} (Says : List ℕ → T → Type 0) (file : Option (List ℕ)) (t : T) : Type 0 where
-  pub bytes : List ℕ
-  pub there : file ≡ Some bytes
-  pub says : Says bytes t
-  pub only : (b : List ℕ) (u : T) → file ≡ Some b → Says b u → u ≡ t
+same_text : (file : Option (List ℕ)) (a b : List ℕ) → file ≡ Some a → file ≡ Some b → a ≡ b
+same_text file a b e f = some_is a b (sym e ∙ f)
 
-none_some : {A P : Type 0} (t : A) (o : Option A) → o ≡ None → o ≡ Some t → P
-none_some {A} {P} t o none some = let e : None ≡ Some t = sym none ∙ some in absurd cc
+-- a file holds one interface
+pub one_interface : (file : Option (List ℕ)) (i j : Interface) → HasInterface file i → HasInterface file j → i ≡ j
+one_interface file i j a b = says_one a.text i j a.says (subst (λ (t : List ℕ). idl.Says t j) (same_text file b.text a.text b.there a.there) b.says)
 
-pub says_one : {T : Type 0} (Says : List ℕ → T → Type 0) (file : Option (List ℕ)) (text : Text) (o : Option T) (t : T) → Gives Says text o → o ≡ Some t → IsTextOf file text → Says1 Says file t
-says_one Says file Absent o t gives is at = none_some t o gives is
-says_one Says file Long o t gives is at = none_some t o gives is
-says_one {T} Says file (Read bytes) o t gives is at =
-    let g : Says bytes t × ((u : T) → Says bytes u → u ≡ t) = subst (λ (p : Option T). MatchOption p ((t : T) → Says bytes t → ⊥) (λ t. Says bytes t × ((u : T) → Says bytes u → u ≡ t))) is gives in
-    record { bytes = bytes; there = at; says = g.0; only = λ b u f s. g.1 u (subst (λ (l : List ℕ). Says l u) (some_is b bytes (sym f ∙ at)) s) }
+-- and one program
+pub one_tree : (file : Option (List ℕ)) (p q : Program) → HasProgram file p → HasProgram file q → p ≡ q
+one_tree file p q a b = one_program a.text p q a.says (subst (λ (t : List ℕ). IsText t q) (same_text file b.text a.text b.there a.there) b.says)
 
--- a text says nothing
-pub says_none : {T : Type 0} (Says : List ℕ → T → Type 0) → ((b : List ℕ) (t : T) → Says b t → length b ≤ 65536) → (file : Option (List ℕ)) (text : Text) (o : Option T) → Gives Says text o → o ≡ None → IsTextOf file text → (b : List ℕ) (t : T) → file ≡ Some b → Says b t → ⊥
-says_none Says short file Absent o gives is at b t f s = none_some b file at f
-says_none Says short file Long o gives is at b t f s =
-    let same : b ≡ at.0 = some_is b at.0 (sym f ∙ at.1) in let le = short b t s in let long : 65536 < length b = subst (λ (l : List ℕ). 65536 < length l) (sym same) at.2 in omega arith
-says_none {T} Says short file (Read bytes) o gives is at b t f s =
-    let g : (t : T) → Says bytes t → ⊥ = subst (λ (p : Option T). MatchOption p ((t : T) → Says bytes t → ⊥) (λ t. Says bytes t × ((u : T) → Says bytes u → u ≡ t))) is gives in
-    g t (subst (λ (l : List ℕ). Says l t) (some_is b bytes (sym f ∙ at)) s)
+right_or_wrong : (text : List ℕ) (i : Interface) (line : ℕ) (k : Rattle.gs_idl.specs.declared.token.IdlKind.IdlKind) → idl.Says text i → idl.IsFault text line k → ⊥
+right_or_wrong text i line k says (idl.too_long bytes long) = let short = says.short in omega arith
+right_or_wrong text i line k says (idl.wrong bytes marks at mark kind short reads there fault none) = none i says
 
-pub has_idl : (folder : Folder) (i : List ℕ) (idl : Idl) → Says1 SaysIdl (folder i) idl → HasIdl folder i idl
-has_idl folder i idl s = record { text = s.bytes; there = s.there; says = s.says }
+-- texts that say an interface and a program that passes don't go wrong
+pub not_wrong : (idl_file program_file : Option (List ℕ)) (i_name p_name name : List ℕ) (line : ℕ) (k : TextKind) (i : Interface) (p : Program) → HasBoth idl_file program_file i p → IsWrong idl_file program_file i_name p_name name line k → ⊥
+not_wrong f g i_name p_name name line k i p both (interface text line1 k1 there fault) =
+    right_or_wrong text i line k1 (subst (λ (t : List ℕ). idl.Says t i) (same_text f both.interface.text text both.interface.there there) both.interface.says) fault
+not_wrong f g i_name p_name name line k i p both (program j text line1 k1 has there fault) =
+    says_or_fails text p line k1 (subst (λ (t : List ℕ). IsText t p) (same_text g both.program.text text both.program.there there) both.program.says) fault
+not_wrong f g i_name p_name name line k i p both (checks j q line1 k1 has tree fault) =
+    let same_i = one_interface f j i has both.interface in
+    let same_p = one_tree g q p tree both.program in
+    let e : fault_of i.ops p ≡ Some (record { line = line; kind = k1 }) = subst (λ (x : Interface). fault_of x.ops p ≡ Some (record { line = line; kind = k1 })) same_i (subst (λ (x : Program). fault_of j.ops x ≡ Some (record { line = line; kind = k1 })) same_p fault) in
+    let no : None ≡ Some (record { line = line; kind = k1 }) = sym both.passes ∙ e in
+    absurd cc
 
-pub has_calls : (folder : Folder) (i p : List ℕ) (idl : Idl) (steps : List Step) → Says1 SaysIdl (folder i) idl → Says1 (λ b s. SaysProgram b idl i p s) (folder p) steps → Readable folder steps → HasCalls folder i p steps
-has_calls folder i p idl steps s t readable = record { idl = idl; interface = has_idl folder i idl s; text = t.bytes; there = t.there; says = t.says; readable = readable }
+calls_of : (folder : Folder) (i_name p_name : List ℕ) (i : Interface) (p : Program) (steps : List Step) → HasBoth (folder i_name) (folder p_name) i p → HasCalls folder i_name p_name steps → straight_calls i i_name p_name p ≡ Some steps
+calls_of folder i_name p_name i p steps both h =
+    let same_i = one_interface (folder i_name) h.interface i h.texts.interface both.interface in
+    let same_p = one_tree (folder p_name) h.program p h.texts.program both.program in
+    subst (λ (x : Interface). straight_calls x i_name p_name p ≡ Some steps) same_i (subst (λ (x : Program). straight_calls h.interface i_name p_name x ≡ Some steps) same_p h.straight)
 
-program_of : (folder : Folder) (i p : List ℕ) (idl : Idl) (steps : List Step) → Says1 SaysIdl (folder i) idl → (h : HasCalls folder i p steps) → SaysProgram h.text idl i p steps
-program_of folder i p idl steps s h = subst (λ (j : Idl). SaysProgram h.text j i p steps) (s.only h.interface.text h.idl h.interface.there h.interface.says) h.says
-
--- the program's text says no calls of the interface
-pub no_calls : (folder : Folder) (i p w : List ℕ) (idl : Idl) → Says1 SaysIdl (folder i) idl → ((b : List ℕ) (t : List Step) → folder p ≡ Some b → SaysProgram b idl i p t → ⊥) → FirstOutside folder i p w p
-no_calls folder i p w idl s none = inr (inl (refl, (idl, has_idl folder i idl s), λ steps h. none h.text steps h.there (program_of folder i p idl steps s h)))
+-- the program isn't straight
+pub not_straight : (folder : Folder) (i_name p_name w_name : List ℕ) (i : Interface) (p : Program) → HasBoth (folder i_name) (folder p_name) i p → None ≡ straight_calls i i_name p_name p → Refused folder i_name p_name w_name p_name 0 NotYet
+not_straight folder i_name p_name w_name i p both none = no_calls i p both (λ steps h. let e : None ≡ Some steps = none ∙ calls_of folder i_name p_name i p steps both h in absurd cc)
 
 -- a file that the calls read can't be read
-pub no_file : (folder : Folder) (i p w : List ℕ) (idl : Idl) (steps : List Step) → Says1 SaysIdl (folder i) idl → Says1 (λ b s. SaysProgram b idl i p s) (folder p) steps → (Readable folder steps → ⊥) → FirstOutside folder i p w p
-no_file folder i p w idl steps s t unread = inr (inl (refl, (idl, has_idl folder i idl s), λ ss h. unread (subst (Readable folder) (t.only h.text ss h.there (program_of folder i p idl ss s h)) h.readable)))
+pub no_file : (folder : Folder) (i_name p_name w_name : List ℕ) (i : Interface) (p : Program) (steps : List Step) → HasBoth (folder i_name) (folder p_name) i p → Some steps ≡ straight_calls i i_name p_name p → (Readable folder steps → ⊥)
+    → Refused folder i_name p_name w_name p_name 0 NotYet
+no_file folder i_name p_name w_name i p steps both is unread =
+    no_calls i p both (λ ss h. unread (subst (Readable folder) (sym (some_is steps ss (is ∙ calls_of folder i_name p_name i p ss both h))) h.readable))
 
--- the third text says no worker
-pub no_worker : (folder : Folder) (i p w : List ℕ) (idl : Idl) (steps : List Step) → Says1 SaysIdl (folder i) idl → Says1 (λ b s. SaysProgram b idl i p s) (folder p) steps → Readable folder steps → ((b : List ℕ) (t : Worker) → folder w ≡ Some b → SaysWorker b t → ⊥) → FirstOutside folder i p w w
-no_worker folder i p w idl steps s t readable none = inr (inr (refl, (steps, has_calls folder i p idl steps s t readable), λ v h. none h.text v h.there h.says))
-
-pub served : (folder : Folder) (i p w : List ℕ) (idl : Idl) (steps : List Step) (worker : Worker) → Says1 SaysIdl (folder i) idl → Says1 (λ b s. SaysProgram b idl i p s) (folder p) steps → Readable folder steps → Says1 SaysWorker (folder w) worker → Served folder i p w steps worker
-served folder i p w idl steps worker s t readable v = record {
-  calls = has_calls folder i p idl steps s t readable;
-  list = record { text = v.bytes; there = v.there; says = v.says };
-}
+pub has_calls : (folder : Folder) (i_name p_name : List ℕ) (i : Interface) (p : Program) (steps : List Step) → HasBoth (folder i_name) (folder p_name) i p → Some steps ≡ straight_calls i i_name p_name p → Readable folder steps → HasCalls folder i_name p_name steps
+has_calls folder i_name p_name i p steps both is readable = record { interface = i; program = p; texts = both; straight = sym is; readable = readable }

@@ -8,8 +8,8 @@ use Rattle.gs_types.specs.declared.value.Value.TheVariants.{Int, Str, File}
 use Rattle.gs_types.specs.declared.job.Arg.{Arg}
 use Rattle.gs_types.specs.declared.job.Arg.TheVariants.{Given, Both, OutFile}
 use Rattle.gs_types.specs.declared.job.Job.{Job}
-use Rattle.gs_form.specs.declared.idl.Way.{Way}
-use Rattle.gs_form.specs.declared.idl.Way.TheVariants.{Reads, Changes, Makes}
+use Rattle.gs_form.specs.declared.program.Way.{Way}
+use Rattle.gs_form.specs.declared.program.Way.TheVariants.{Reads, Changes, Makes}
 use Rattle.gs_form.specs.declared.program.Place.{Place}
 use Rattle.gs_form.specs.declared.program.Step.{Step}
 use Rattle.gs_disk.specs.Folder.{Folder}

@@ -2,8 +2,8 @@
 use Rattle.std.specs.Prelude.{◌≡◌, ◌≤◌, List, [], ◌∷◌, length}
 use Rattle.gs_types.specs.declared.value.Value.{Value}
 use Rattle.gs_types.specs.declared.value.Value.TheVariants.{Int, Str, File}
-use Rattle.gs_form.specs.declared.idl.Way.{Way}
-use Rattle.gs_form.specs.declared.idl.Way.TheVariants.{Reads, Changes, Makes}
+use Rattle.gs_form.specs.declared.program.Way.{Way}
+use Rattle.gs_form.specs.declared.program.Way.TheVariants.{Reads, Changes, Makes}
 use Rattle.gs_form.specs.declared.program.Place.{Place}
 
 -- the next output is a file within the limit, and the rest fits

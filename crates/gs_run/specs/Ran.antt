@@ -8,10 +8,14 @@ use Rattle.gs_form.specs.declared.program.Step.{Step}
 use Rattle.gs_form.specs.declared.worker.Worker.{Worker}
 use Rattle.gs_run.specs.Calls.{Leads, Runs, failure_in}
 use Rattle.gs_run.specs.Reading.{WrittenBefore}
-use Rattle.gs_run.specs.Served.{Served, Present, FirstAbsent, FirstOutside}
-use Rattle.gs_run.specs.Words.{IsRun, IsUsage}
+use Rattle.gs_run.specs.Served.{Served, Present, FirstAbsent, Refused}
+use Rattle.gs_run.specs.Words.{IsRun, IsCheck, IsUsage}
 use Rattle.gs_run.specs.declared.stop.Stop.{Stop}
-use Rattle.gs_run.specs.declared.stop.Stop.TheVariants.{Usage, NoText, NotYet, Lost, Disk, Memory}
+use Rattle.gs_run.specs.declared.stop.Stop.TheVariants.{Usage, NoText, BadText, Lost, Disk, Sink, Memory}
+
+-- the words are no check's
+abbrev pub IsNoCheck : List (List ℕ) → Type 0
+IsNoCheck words = (idl program : List ℕ) → IsCheck words idl program → ⊥
 
 -- the words are a run's, with these names
 abbrev pub SomeRun : List (List ℕ) → (List ℕ → List ℕ → List ℕ → Type 0) → Type 0
@@ -22,9 +26,10 @@ abbrev pub Cause : List (List ℕ) → ℕ → ℕ → ℕ → ℕ → Result Un
 Cause words disk_old disk_new link_old link_new (Ok done) = SomeRun words (λ i p w. Unit {0})
 Cause words disk_old disk_new link_old link_new (Err (Usage at)) = IsUsage words at
 Cause words disk_old disk_new link_old link_new (Err (NoText name)) = SomeRun words (λ i p w. Unit {0})
-Cause words disk_old disk_new link_old link_new (Err (NotYet name)) = SomeRun words (λ i p w. Unit {0})
+Cause words disk_old disk_new link_old link_new (Err (BadText name line kind)) = SomeRun words (λ i p w. Unit {0})
 Cause words disk_old disk_new link_old link_new (Err (Lost n)) = SomeRun words (λ i p w. Unit {0}) × Rises link_old link_new
 Cause words disk_old disk_new link_old link_new (Err Disk) = SomeRun words (λ i p w. Unit {0}) × Rises disk_old disk_new
+Cause words disk_old disk_new link_old link_new (Err Sink) = ⊥
 Cause words disk_old disk_new link_old link_new (Err Memory) = SomeRun words (λ i p w. Unit {0})
 
 -- the folder serves a run with these words
@@ -36,9 +41,10 @@ abbrev pub Judged : List (List ℕ) → Folder → Result Unit Stop → Type 0
 Judged words folder (Ok done) = IsServed words folder (λ s w. Unit {0})
 Judged words folder (Err (Usage at)) = Unit {0}
 Judged words folder (Err (NoText name)) = SomeRun words (λ i p w. FirstAbsent folder i p w name)
-Judged words folder (Err (NotYet name)) = SomeRun words (λ i p w. Present folder i p w × FirstOutside folder i p w name)
+Judged words folder (Err (BadText name line kind)) = SomeRun words (λ i p w. Present folder i p w × Refused folder i p w name line kind)
 Judged words folder (Err (Lost n)) = IsServed words folder (λ s w. Unit {0})
 Judged words folder (Err Disk) = Unit {0}
+Judged words folder (Err Sink) = ⊥
 Judged words folder (Err Memory) = Unit {0}
 
 -- all files read as before
@@ -54,9 +60,10 @@ abbrev pub Left : List (List ℕ) → Folder → Folder → Result Unit Stop →
 Left words old new (Ok done) = OthersStay words old new
 Left words old new (Err (Usage at)) = Unchanged old new
 Left words old new (Err (NoText name)) = Unchanged old new
-Left words old new (Err (NotYet name)) = Unchanged old new
+Left words old new (Err (BadText name line kind)) = Unchanged old new
 Left words old new (Err (Lost n)) = Unchanged old new
 Left words old new (Err Disk) = OthersStay words old new
+Left words old new (Err Sink) = ⊥
 Left words old new (Err Memory) = OthersStay words old new
 
 -- the task that each answer names
@@ -64,9 +71,10 @@ abbrev pub lost_in : Result Unit Stop → Option ℕ
 lost_in (Ok done) = None
 lost_in (Err (Usage at)) = None
 lost_in (Err (NoText name)) = None
-lost_in (Err (NotYet name)) = None
+lost_in (Err (BadText name line kind)) = None
 lost_in (Err (Lost n)) = Some n
 lost_in (Err Disk) = None
+lost_in (Err Sink) = None
 lost_in (Err Memory) = None
 
 -- where words or texts were refused, nothing happened on the link
@@ -74,9 +82,10 @@ abbrev pub IsQuiet : Result Unit Stop → History → Type 0
 IsQuiet (Ok done) h = Unit {0}
 IsQuiet (Err (Usage at)) h = h ≡ []
 IsQuiet (Err (NoText name)) h = h ≡ []
-IsQuiet (Err (NotYet name)) h = h ≡ []
+IsQuiet (Err (BadText name line kind)) h = h ≡ []
 IsQuiet (Err (Lost n)) h = Unit {0}
 IsQuiet (Err Disk) h = Unit {0}
+IsQuiet (Err Sink) h = ⊥
 IsQuiet (Err Memory) h = Unit {0}
 
 -- the history of the call: a failure stands in it exactly where the answer is that its task was lost

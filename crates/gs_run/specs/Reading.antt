@@ -2,7 +2,7 @@
 use Rattle.std.specs.Prelude.{◌≡◌, ◌≢◌, ◌⊎◌, ℕ, ◌≤◌, List, length, take, Option, Some, IsSome, MatchOption, Any}
 use Rattle.std.specs.List.{slice_get}
 use Rattle.gs_disk.specs.Folder.{Folder}
-use Rattle.gs_form.specs.declared.idl.Way.TheVariants.{Reads, Makes}
+use Rattle.gs_form.specs.declared.program.Way.TheVariants.{Reads, Makes}
 use Rattle.gs_form.specs.declared.program.Step.{Step}
 
 abbrev pub ReadsFile : Step → List ℕ → Type 0

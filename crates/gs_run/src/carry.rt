@@ -92,7 +92,7 @@ pub(crate) fn carry_out<D: Disk, K: Link>(
     originals: &Files,
 ) -> Result<Changed, Halt>
     requires idle { IsIdle (K.jobs (link_of site.old)) }
-    requires few { length steps.now ≤ 1000 }
+    requires few { length steps.now ≤ 10000 }
     requires ready { Ready (content_of originals.now.map) steps.now }
     ensures disk { disk_of site.new ≡ disk_of site.old }
     ensures idle { IsIdle (K.jobs (link_of site.new)) }

@@ -3,14 +3,14 @@ ghost use Rattle.std.specs.Prelude.{◌≡◌, ◌≤◌, length, IfOk};
 ghost use Rattle.gs_run.specs.Files.{content_of};
 ghost use Rattle.gs_run.specs.Judging.{JudgeEnds, JudgeTold};
 ghost use Rattle.gs_run.specs.Reading.{Ready};
-ghost use Rattle.gs_run.specs.declared.stop.Stop.TheVariants.{NotYet};
 
+use crate::kinds::TextKind;
 use crate::originals::gather;
-use crate::texts::{idl_of, read_texts, steps_of, worker_of};
+use crate::texts::{bad_text, checked, read_texts, worker_of};
 use crate::words::Words;
 use crate::{Files, Stop};
 use gs_disk::{Disk, DiskErr};
-use gs_form::{Step, Worker};
+use gs_form::{Step, Worker, straight_calls};
 use gs_types::{Name, Sequence};
 use std::alloc::Global;
 
@@ -22,26 +22,43 @@ pub(crate) struct Plan {
     pub worker: Worker,
 }
 
-/// Reads the three texts, then the files that the calls read, and judges them in the order IDL, program,
-/// worker list.
+fn not_yet(name: &Name) -> Stop
+    ensures { result ≡ Stop.BadText name.now 0 TextKind.NotYet }
+{
+    bad_text(name, 0, TextKind::NotYet)
+}
+
+/// Reads the three texts, then the files that the calls read, and judges them in the order IDL, program, its checks,
+/// its calls, worker list.
 pub(crate) fn judge<D: Disk>(alloc: Global, disk: &mut D, words: &Words) -> Result<Plan, Stop>
     ensures same { D.tells → (D.state disk.new).folder ≡ (D.state disk.old).folder }
     ensures rise { (D.state disk.old).faults ≤ (D.state disk.new).faults }
     ensures ends { JudgeEnds (D.state disk.old).faults (D.state disk.new).faults result }
     ensures judged { D.tells → JudgeTold (D.state disk.old).folder words.now.idl words.now.program words.now.workers result }
     ensures ready { IfOk result (λ plan. Ready (content_of plan.originals.map) plan.steps) }
-    ensures few { IfOk result (λ plan. length plan.steps ≤ 1000) }
+    ensures few { IfOk result (λ plan. length plan.steps ≤ 10000) }
 {
     let texts = match read_texts(alloc, disk, words) {
         Ok(texts) => texts,
         Err(stop) => return Err(stop),
     };
-    let idl = match idl_of(alloc, &texts.idl) {
-        Ok(Some(idl)) => idl,
-        Ok(None) => return Err(not_yet(&words.idl)),
-        Err(_) => return Err(Stop::Memory),
+    let checked = match checked(
+        alloc,
+        &words.idl,
+        &texts.idl,
+        &words.program,
+        &texts.program,
+    ) {
+        Ok(checked) => checked,
+        Err(stop) => return Err(stop),
     };
-    let steps = match steps_of(alloc, &texts.program, &idl, words) {
+    let steps = match straight_calls(
+        alloc,
+        checked.tree(),
+        checked.idl(),
+        &words.idl,
+        &words.program,
+    ) {
         Ok(Some(steps)) => steps,
         Ok(None) => return Err(not_yet(&words.program)),
         Err(_) => return Err(Stop::Memory),
@@ -61,10 +78,4 @@ pub(crate) fn judge<D: Disk>(alloc: Global, disk: &mut D, words: &Words) -> Resu
         Ok(None) => Err(not_yet(&words.workers)),
         Err(_) => Err(Stop::Memory),
     }
-}
-
-fn not_yet(name: &Name) -> Stop
-    ensures { result ≡ NotYet name.now }
-{
-    Stop::NotYet { name: name.copy() }
 }

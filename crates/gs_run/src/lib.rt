@@ -4,8 +4,10 @@
 mod arguments;
 mod carry;
 mod changed;
+mod checking;
 mod files;
 mod judge;
+mod kinds;
 mod originals;
 mod run;
 mod stop;
@@ -15,5 +17,6 @@ mod words;
 mod writing;
 
 pub use files::Files;
+pub use kinds::TextKind;
 pub use run::gs;
 pub use stop::Stop;

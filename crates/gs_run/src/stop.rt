@@ -1,20 +1,33 @@
 // Why a call of `gs` stops.
-ghost use Rattle.std.specs.Prelude.{◌≡◌, ◌≤◌, ◌++◌, OnOk, OnErr, Err};
+ghost use Rattle.std.specs.Prelude.{◌≡◌, ◌≤◌, ◌++◌, OnOk, OnErr, Err, decimal, codes, ◌∷◌, []};
+ghost use Rattle.gs_run.specs.Kinds.{kind_text};
 ghost use Rattle.gs_types.specs.Counts.{Rises};
 
+use crate::kinds::{TextKind, kind_text};
 use gs_types::{Name, Sink, SinkFailed, put_all};
 use itoa::Buffer;
 
-/// Why a call of `gs` stops before it is done: the words have no reading, from the word at this place on;
-/// a text is absent; a text isn't in the form that is served; a task was lost; the disk failed; memory was
-/// wanting.
+/// Why a call of `gs` stops before it is done: the words have no reading, from the word at this place on; a text is
+/// absent; a text goes wrong, on a line, from 1, or as a whole, on line 0; a task was lost; the disk failed; the
+/// output failed; memory was wanting.
 #[derive(Drop)]
 pub enum Stop {
-    Usage { word: usize },
-    NoText { name: Name },
-    NotYet { name: Name },
-    Lost { n: u32 },
+    Usage {
+        word: usize,
+    },
+    NoText {
+        name: Name,
+    },
+    BadText {
+        name: Name,
+        line: u32,
+        kind: TextKind,
+    },
+    Lost {
+        n: u32,
+    },
     Disk,
+    Sink,
     Memory,
 }
 
@@ -28,9 +41,14 @@ impl Stop {
         match self {
             Stop::Usage { word: _ } => 2,
             Stop::NoText { name: _ } => 3,
-            Stop::NotYet { name: _ } => 4,
+            Stop::BadText {
+                name: _,
+                line: _,
+                kind: _,
+            } => 4,
             Stop::Lost { n: _ } => 9,
             Stop::Disk => 10,
+            Stop::Sink => 11,
             Stop::Memory => 12,
         }
     }
@@ -50,9 +68,7 @@ impl Stop {
                 b"\n",
             ),
             Stop::NoText { name } => tell_parts(err, b"gs: no text: ", name.bytes(), b"\n"),
-            Stop::NotYet { name } => {
-                tell_parts(err, b"gs: bad text: ", name.bytes(), b":0: NotYet\n")
-            }
+            Stop::BadText { name, line, kind } => tell_bad_text(err, name, *line, *kind),
             Stop::Lost { n } => tell_parts(
                 err,
                 b"gs: task lost: ",
@@ -60,6 +76,7 @@ impl Stop {
                 b"\n",
             ),
             Stop::Disk => put_all(err, b"gs: disk fault\n"),
+            Stop::Sink => put_all(err, b"gs: sink fault\n"),
             Stop::Memory => put_all(err, b"gs: no memory\n"),
         }
     }
@@ -79,4 +96,20 @@ fn tell_parts<E: Sink>(
     put_all(err, middle)?;
     put_all(err, back)?;
     Ok(())
+}
+
+fn tell_bad_text<E: Sink>(
+    err: &mut E,
+    name: &Name,
+    line: u32,
+    kind: TextKind,
+) -> Result<(), SinkFailed>
+    ensures all { E.tells → OnOk result (E.written err.new ≡ E.written err.old ++ (codes "gs: bad text: " ++ (name.now ++ (codes ":" ++ (decimal line ++ (codes ": " ++ (kind_text kind ++ 10 ∷ []))))))) }
+    ensures rise { E.faults err.old ≤ E.faults err.new }
+    ensures cause { OnErr result (Rises (E.faults err.old) (E.faults err.new)) }
+{
+    let mut buffer = Buffer::new();
+    tell_parts(err, b"gs: bad text: ", name.bytes(), b":")?;
+    tell_parts(err, buffer.format(line).as_bytes(), b": ", kind_text(kind))?;
+    put_all(err, b"\n")
 }

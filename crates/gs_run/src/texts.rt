@@ -1,81 +1,149 @@
-// The texts of a run, as they are read and as they are understood.
-ghost use Rattle.std.specs.Prelude.{◌≡◌, ◌≤◌, IfOk};
-ghost use Rattle.gs_form.specs.Idl.{SaysIdl};
-ghost use Rattle.gs_form.specs.Program.{SaysProgram};
-ghost use Rattle.gs_form.specs.Worker.{SaysWorker};
-ghost use Rattle.gs_run.specs.Judging.{IsTextOf, TextEnds, TextsEnd, TextsTold};
-ghost use Rattle.gs_run.specs.Texts.{Gives};
-ghost use Rattle.gs_run.specs.declared.stop.Stop.TheVariants.{NoText};
+// The texts of a command, as they are read and as they are understood.
+ghost use Rattle.std.specs.Prelude.{◌≡◌, ◌≤◌, ℕ, List, Option, IfOk, IfSome, IfNone, None};
+ghost use Rattle.gs_disk.specs.Folder.{Same};
+ghost use Rattle.gs_disk.specs.Moments.{Passes};
+ghost use Rattle.gs_run.specs.Judging.{IsTextOf, IsFileOf, TextEnds, TextsEnd, TextsTold, InterfaceOf, TreeOf, BothOf, WorkerOf, JudgedOnly};
+ghost use Rattle.gs_run.specs.declared.stop.Stop.TheVariants.{NoText, BadText};
+ghost use Rattle.gs_run.specs.declared.kinds.TextKind.TheVariants as kind;
 
 use crate::Stop;
 use crate::files::disk_name;
+use crate::kinds::TextKind;
 use crate::words::Words;
+use gs_check::{CheckErr, Checked, check};
 use gs_disk::{Disk, DiskErr, Whole, read_whole};
-use gs_form::{Idl, Step, Worker, read_idl, read_program, read_worker};
-use gs_types::{Blob, Name, NoMemory, Sequence};
+use gs_form::{Worker, read_worker};
+use gs_idl::{Idl, IdlErr, IdlKind};
+use gs_parse::{ParseErr, ParseKind, parse};
+use gs_tree::tree::Tree;
+use gs_types::{Blob, Name, NoMemory};
 use std::alloc::Global;
 
 /// The limit of a text, in bytes.
 pub const TEXT_LIMIT: u64 = 65_536;
 
-/// A text's file: absent, longer than the limit, or its bytes.
+/// A text that is present: longer than the limit, or its bytes.
 #[derive(Drop)]
 pub(crate) enum Text {
-    Absent,
     Long,
     Read { bytes: Blob },
 }
 
-pub(crate) fn read_text<D: Disk>(alloc: Global, disk: &mut D, name: &Name) -> Result<Text, Stop>
+/// Reads a text; `None` exactly where its file is absent.
+pub(crate) fn read_text<D: Disk>(
+    alloc: Global,
+    disk: &mut D,
+    name: &Name,
+) -> Result<Option<Text>, Stop>
     ensures same { D.tells → (D.state disk.new).folder ≡ (D.state disk.old).folder }
+    ensures images { D.tells → Passes Same (D.state disk.old) (D.state disk.new) }
     ensures rise { (D.state disk.old).faults ≤ (D.state disk.new).faults }
     ensures ends { TextEnds (D.state disk.old).faults (D.state disk.new).faults result }
-    ensures text { D.tells → IfOk result (λ t. IsTextOf ((D.state disk.old).folder name.now) t) }
+    ensures text { D.tells → IfOk result (λ t. IsFileOf ((D.state disk.old).folder name.now) t) }
 {
     let mut bytes = Vec::new(alloc);
     match read_whole(alloc, disk, &disk_name(name), TEXT_LIMIT, &mut bytes) {
-        Ok(Whole::Absent) => Ok(Text::Absent),
-        Ok(Whole::TooLong { len: _ }) => Ok(Text::Long),
-        Ok(Whole::Read { len: _ }) => Ok(Text::Read {
+        Ok(Whole::Absent) => Ok(None),
+        Ok(Whole::TooLong { len: _ }) => Ok(Some(Text::Long)),
+        Ok(Whole::Read { len: _ }) => Ok(Some(Text::Read {
             bytes: Blob::of(bytes),
-        }),
+        })),
         Err(DiskErr::Fault) => Err(Stop::Disk),
         Err(DiskErr::Memory) => Err(Stop::Memory),
     }
 }
 
-pub(crate) fn idl_of(alloc: Global, text: &Text) -> Result<Option<Idl>, NoMemory>
-    ensures { IfOk result (λ o. Gives SaysIdl text.now o) }
+pub(crate) fn no_text(name: &Name) -> Stop
+    ensures { result ≡ NoText name.now }
 {
-    match text {
-        Text::Absent => Ok(None),
-        Text::Long => Ok(None),
-        Text::Read { bytes } => read_idl(alloc, bytes.bytes()),
+    Stop::NoText { name: name.copy() }
+}
+
+pub(crate) fn bad_text(name: &Name, line: u32, kind: TextKind) -> Stop
+    ensures { result ≡ BadText name.now line kind }
+{
+    Stop::BadText {
+        name: name.copy(),
+        line,
+        kind,
     }
 }
 
-pub(crate) fn steps_of(
+fn interface_of(alloc: Global, text: &Text, name: &Name) -> Result<Idl, Stop>
+    ensures ends { JudgedOnly result }
+    ensures says { (file : Option (List ℕ)) → IsTextOf file text.now → InterfaceOf file name.now result }
+{
+    match text {
+        Text::Long => Err(bad_text(
+            name,
+            0,
+            TextKind::Idl {
+                kind: IdlKind::TooLong,
+            },
+        )),
+        Text::Read { bytes } => match gs_idl::read(alloc, bytes.bytes()) {
+            Ok(idl) => Ok(idl),
+            Err(IdlErr::At { line, kind }) => Err(bad_text(name, line, TextKind::Idl { kind })),
+            Err(IdlErr::NoMemory) => Err(Stop::Memory),
+        },
+    }
+}
+
+fn tree_of(alloc: Global, text: &Text, name: &Name) -> Result<Tree, Stop>
+    ensures ends { JudgedOnly result }
+    ensures says { (file : Option (List ℕ)) → IsTextOf file text.now → TreeOf file name.now result }
+{
+    match text {
+        Text::Long => Err(bad_text(
+            name,
+            0,
+            TextKind::Program {
+                kind: ParseKind::TooLong,
+            },
+        )),
+        Text::Read { bytes } => match parse(alloc, bytes.bytes()) {
+            Ok(tree) => Ok(tree),
+            Err(ParseErr::At { line, kind }) => {
+                Err(bad_text(name, line, TextKind::Program { kind }))
+            }
+            Err(ParseErr::NoMemory) => Err(Stop::Memory),
+        },
+    }
+}
+
+/// Reads the interface and the program, and checks the program. Where one goes wrong, `BadText` with the first fault.
+pub(crate) fn checked(
     alloc: Global,
-    text: &Text,
-    idl: &Idl,
-    words: &Words,
-) -> Result<Option<Sequence<Step>>, NoMemory>
-    ensures { IfOk result (λ o. Gives (λ b s. SaysProgram b idl.now words.now.idl words.now.program s) text.now o) }
+    idl_name: &Name,
+    idl: &Text,
+    program_name: &Name,
+    program: &Text,
+) -> Result<Checked, Stop>
+    ensures ends { JudgedOnly result }
+    ensures says { (i p : Option (List ℕ)) → IsTextOf i idl.now → IsTextOf p program.now → BothOf i p idl_name.now program_name.now result }
 {
-    match text {
-        Text::Absent => Ok(None),
-        Text::Long => Ok(None),
-        Text::Read { bytes } => {
-            read_program(alloc, bytes.bytes(), idl, &words.idl, &words.program)
+    let idl = match interface_of(alloc, idl, idl_name) {
+        Ok(idl) => idl,
+        Err(stop) => return Err(stop),
+    };
+    let tree = match tree_of(alloc, program, program_name) {
+        Ok(tree) => tree,
+        Err(stop) => return Err(stop),
+    };
+    match check(alloc, tree, idl) {
+        Ok(checked) => Ok(checked),
+        Err(CheckErr::At { line, kind }) => {
+            Err(bad_text(program_name, line, TextKind::Check { kind }))
         }
+        Err(CheckErr::NoMemory) => Err(Stop::Memory),
     }
 }
 
+/// The worker of a list; `None` exactly where the text isn't in the list's form.
 pub(crate) fn worker_of(alloc: Global, text: &Text) -> Result<Option<Worker>, NoMemory>
-    ensures { IfOk result (λ o. Gives SaysWorker text.now o) }
+    ensures { IfOk result (λ o. (file : Option (List ℕ)) → IsTextOf file text.now → WorkerOf file o) }
 {
     match text {
-        Text::Absent => Ok(None),
         Text::Long => Ok(None),
         Text::Read { bytes } => read_worker(alloc, bytes.bytes()),
     }
@@ -87,12 +155,6 @@ pub(crate) struct Texts {
     pub idl: Text,
     pub program: Text,
     pub workers: Text,
-}
-
-fn no_text(name: &Name) -> Stop
-    ensures { result ≡ NoText name.now }
-{
-    Stop::NoText { name: name.copy() }
 }
 
 /// Reads the three texts. `NoText` exactly where one is absent, with the first in the order IDL, program,
@@ -115,15 +177,15 @@ pub(crate) fn read_texts<D: Disk>(alloc: Global, disk: &mut D, words: &Words) ->
         Ok(text) => text,
         Err(stop) => return Err(stop),
     };
-    if let Text::Absent = idl {
+    let Some(idl) = idl else {
         return Err(no_text(&words.idl));
-    }
-    if let Text::Absent = program {
+    };
+    let Some(program) = program else {
         return Err(no_text(&words.program));
-    }
-    if let Text::Absent = workers {
+    };
+    let Some(workers) = workers else {
         return Err(no_text(&words.workers));
-    }
+    };
     Ok(Texts {
         idl,
         program,

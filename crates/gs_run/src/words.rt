@@ -1,9 +1,9 @@
 // The words of the command line.
-ghost use Rattle.std.specs.Prelude.{◌≡◌, ◌<◌, ◌≤◌, ◌⊎◌, MatchResult, MatchOption, Some, map, length, true, false, codes};
-ghost use Rattle.std.specs.List.{slice_get};
+ghost use Rattle.std.specs.Prelude.{◌≡◌, MatchResult, map, codes};
+ghost use Rattle.std.specs.Bool.{Decides};
 ghost use Rattle.std.specs.String.{string_bytes};
-ghost use Rattle.gs_types.specs.Name.{IsName};
-ghost use Rattle.gs_run.specs.Words.{IsRun, IsUsage};
+ghost use Rattle.gs_run.specs.Asked.{Asks};
+ghost use Rattle.gs_run.specs.Words.{IsRun, IsCheck, IsUsage, HasVerb, IsNameAt, NoNameAt};
 
 use gs_types::Name;
 
@@ -15,8 +15,22 @@ pub(crate) struct Words {
     pub workers: Name,
 }
 
+/// The two names of `check IDL PROGRAM`.
+#[derive(Drop)]
+pub(crate) struct CheckWords {
+    pub idl: Name,
+    pub program: Name,
+}
+
+/// What the words of the command line ask for, with the names of the texts.
+#[derive(Drop)]
+pub(crate) enum Command {
+    Run { words: Words },
+    Check { words: CheckWords },
+}
+
 fn name_at(words: &Vec<String>, at: usize) -> Result<Name, usize>
-    ensures { MatchResult result (λ n. (slice_get (map string_bytes words.now.items) at ≡ Some n) × IsName n) (λ e. (e ≡ at) × MatchOption (slice_get (map string_bytes words.now.items) at) (length words.now.items ≤ at) (λ w. IsName w → ⊥)) }
+    ensures { MatchResult result (λ n. IsNameAt (map string_bytes words.now.items) at n) (λ e. (e ≡ at) × NoNameAt (map string_bytes words.now.items) at) }
 {
     if at >= words.len() {
         return Err(at);
@@ -27,23 +41,19 @@ fn name_at(words: &Vec<String>, at: usize) -> Result<Name, usize>
     }
 }
 
-fn is_run(words: &Vec<String>) -> bool
-    ensures { MatchOption (slice_get (map string_bytes words.now.items) 0) (result ≡ false) (λ w. (result ≡ true → w ≡ codes "run") × (result ≡ false → w ≡ codes "run" → ⊥)) }
+fn has_verb(words: &Vec<String>, verb: &str) -> bool
+    ensures { Decides result (HasVerb (map string_bytes words.now.items) verb.now) }
 {
     match words.first() {
-        Some(verb) => verb.as_str() == "run",
+        Some(word) => word.as_str() == verb,
         None => false,
     }
 }
 
-/// Reads the words of a run. The error is the place of the first word that doesn't fit, from 0, or the
-/// number of words.
-pub(crate) fn read_words(words: &Vec<String>) -> Result<Words, usize>
+fn read_run(words: &Vec<String>) -> Result<Words, usize>
+    requires { HasVerb (map string_bytes words.now.items) (codes "run") }
     ensures { MatchResult result (λ w. IsRun (map string_bytes words.now.items) w.idl w.program w.workers) (λ at. IsUsage (map string_bytes words.now.items) at) }
 {
-    if !is_run(words) {
-        return Err(0);
-    }
     let idl = name_at(words, 1)?;
     let program = name_at(words, 2)?;
     let workers = name_at(words, 3)?;
@@ -55,4 +65,32 @@ pub(crate) fn read_words(words: &Vec<String>) -> Result<Words, usize>
         program,
         workers,
     })
+}
+
+fn read_check(words: &Vec<String>) -> Result<CheckWords, usize>
+    requires { HasVerb (map string_bytes words.now.items) (codes "check") }
+    ensures { MatchResult result (λ w. IsCheck (map string_bytes words.now.items) w.idl w.program) (λ at. IsUsage (map string_bytes words.now.items) at) }
+{
+    let idl = name_at(words, 1)?;
+    let program = name_at(words, 2)?;
+    if words.len() > 3 {
+        return Err(3);
+    }
+    Ok(CheckWords { idl, program })
+}
+
+/// Reads the words of a command: `run IDL PROGRAM WORKERS` or `check IDL PROGRAM`. The error is the place,
+/// from 0, of the first word with which no command goes on, or the number of words where they are too few.
+pub(crate) fn read_words(words: &Vec<String>) -> Result<Command, usize>
+    ensures { Asks (map string_bytes words.now.items) result }
+{
+    if has_verb(words, "run") {
+        let run = read_run(words)?;
+        return Ok(Command::Run { words: run });
+    }
+    if has_verb(words, "check") {
+        let check = read_check(words)?;
+        return Ok(Command::Check { words: check });
+    }
+    Err(0)
 }

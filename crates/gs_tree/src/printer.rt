@@ -1,8 +1,10 @@
 //! Printing lists of statements.
 
-ghost use Rattle.std.specs.Prelude.{◌≡◌, ◌+◌, ◌++◌, OnOk};
-ghost use Rattle.gs_tree.specs.Printed.{code_text, codes_text};
-ghost use Rattle.gs_tree.specs.View.{code_of, codes_of};
+ghost use Rattle.std.specs.Prelude.{◌≡◌, ◌+◌, ◌++◌, OnOk, MatchOption, codes};
+ghost use Rattle.std.specs.Option.{option_map};
+ghost use Rattle.gs_tree.specs.Program.{block, choose, while, for, without, otherwise};
+ghost use Rattle.gs_tree.specs.Printed.{code_text, codes_text, else_text, line_text};
+ghost use Rattle.gs_tree.specs.View.{code_of, codes_of, setting_of, term_of};
 
 use crate::NoMemory;
 use crate::put::put_line;
@@ -10,7 +12,7 @@ use crate::put_stmt::{
     put_barrier, put_call, put_close, put_for_head, put_head, put_open, put_print, put_print_to,
     put_read, put_set,
 };
-use crate::tree::Stmt;
+use crate::tree::{Assign, Expr, Stmt};
 use std::alloc::Global;
 
 /// The statements of a body at a level.
@@ -44,78 +46,112 @@ fn put_stmt(s: &Stmt, alloc: Global, level: usize, out: &mut Vec<u8>) -> Result<
     ensures { OnOk result (out.new.items ≡ out.old.items ++ code_text level (code_of s.now)) }
 {
     match s {
-        Stmt::Empty { line: _ } => put_line(level, b";", out),
-        Stmt::Block { line: _, body } => {
-            put_line(level, b"{", out)?;
-            put_inner(body, alloc, level, out)?;
-            put_line(level, b"}", out)
-        }
+        Stmt::Empty { .. } => put_line(level, b";", out),
+        Stmt::Block { body, .. } => put_block(body, alloc, level, out),
         Stmt::Set { a } => put_set(alloc, level, a, out),
-        Stmt::If {
-            line: _,
-            cond,
-            yes,
-            no,
-        } => {
-            put_head(alloc, level, b"if (", cond, out)?;
-            put_inner(yes, alloc, level, out)?;
-            if let Some(no) = no {
-                put_line(level, b"} else {", out)?;
-                put_inner(no, alloc, level, out)?;
-            }
-            put_line(level, b"}", out)
-        }
-        Stmt::While {
-            line: _,
-            cond,
-            body,
-        } => {
-            put_head(alloc, level, b"while (", cond, out)?;
-            put_inner(body, alloc, level, out)?;
-            put_line(level, b"}", out)
-        }
+        Stmt::If { cond, yes, no, .. } => put_if(yes, no, cond, alloc, level, out),
+        Stmt::While { cond, body, .. } => put_while(body, cond, alloc, level, out),
         Stmt::For {
-            line: _,
             first,
             cond,
             step,
             body,
-        } => {
-            put_for_head(alloc, level, first, cond, step, out)?;
-            put_inner(body, alloc, level, out)?;
-            put_line(level, b"}", out)
-        }
-        Stmt::OpenFile {
-            line: _,
-            to,
-            path,
-            mode,
-        } => put_open(alloc, level, to, path, *mode, out),
+            ..
+        } => put_for(body, first, cond, step, alloc, level, out),
+        Stmt::OpenFile { to, path, mode, .. } => put_open(alloc, level, to, path, *mode, out),
         Stmt::ReadLine {
-            line: _,
             got,
             handle,
             to,
+            ..
         } => put_read(level, got, handle, to, out),
-        Stmt::CloseFile { line: _, handle } => put_close(level, handle, out),
-        Stmt::Barrier { line: _ } => put_barrier(level, out),
-        Stmt::Print {
-            line: _,
-            format,
-            args,
-        } => put_print(alloc, level, format, args, out),
+        Stmt::CloseFile { handle, .. } => put_close(level, handle, out),
+        Stmt::Barrier { .. } => put_barrier(level, out),
+        Stmt::Print { format, args, .. } => put_print(alloc, level, format, args, out),
         Stmt::PrintFile {
-            line: _,
             handle,
             format,
             args,
+            ..
         } => put_print_to(alloc, level, b"fprintf(", handle, format, args, out),
         Stmt::PrintStr {
-            line: _,
             to,
             format,
             args,
+            ..
         } => put_print_to(alloc, level, b"sprintf(", to, format, args, out),
         Stmt::Call { op, args } => put_call(alloc, level, op, args, out),
     }
+}
+
+#[cycle(statements)]
+fn put_block(body: &[Stmt], alloc: Global, level: usize, out: &mut Vec<u8>) -> Result<(), NoMemory>
+    ensures { OnOk result (out.new.items ≡ out.old.items ++ code_text level (block 0 (codes_of body.now))) }
+{
+    put_line(level, b"{", out)?;
+    put_inner(body, alloc, level, out)?;
+    put_line(level, b"}", out)
+}
+
+#[cycle(statements)]
+fn put_if(
+    yes: &[Stmt],
+    no: &Option<Vec<Stmt>>,
+    cond: &Expr,
+    alloc: Global,
+    level: usize,
+    out: &mut Vec<u8>,
+) -> Result<(), NoMemory>
+    ensures { OnOk result (MatchOption no.now
+        (out.new.items ≡ out.old.items ++ code_text level (choose 0 (term_of cond.now) (codes_of yes.now) without))
+        (λ body. out.new.items ≡ out.old.items ++ code_text level (choose 0 (term_of cond.now) (codes_of yes.now) (otherwise (codes_of body.items))))) }
+{
+    put_head(alloc, level, b"if (", cond, out)?;
+    put_inner(yes, alloc, level, out)?;
+    match no {
+        Some(no) => put_else(no, alloc, level, out),
+        None => put_line(level, b"}", out),
+    }
+}
+
+#[cycle(statements)]
+fn put_else(no: &[Stmt], alloc: Global, level: usize, out: &mut Vec<u8>) -> Result<(), NoMemory>
+    ensures { OnOk result (out.new.items ≡ out.old.items ++ (else_text level (otherwise (codes_of no.now)) ++ line_text level (codes "}"))) }
+{
+    put_line(level, b"} else {", out)?;
+    put_inner(no, alloc, level, out)?;
+    put_line(level, b"}", out)
+}
+
+#[cycle(statements)]
+fn put_while(
+    body: &[Stmt],
+    cond: &Expr,
+    alloc: Global,
+    level: usize,
+    out: &mut Vec<u8>,
+) -> Result<(), NoMemory>
+    ensures { OnOk result (out.new.items ≡ out.old.items ++ code_text level (while 0 (term_of cond.now) (codes_of body.now))) }
+{
+    put_head(alloc, level, b"while (", cond, out)?;
+    put_inner(body, alloc, level, out)?;
+    put_line(level, b"}", out)
+}
+
+#[cycle(statements)]
+fn put_for(
+    body: &[Stmt],
+    first: &Option<Assign>,
+    cond: &Option<Expr>,
+    step: &Option<Assign>,
+    alloc: Global,
+    level: usize,
+    out: &mut Vec<u8>,
+) -> Result<(), NoMemory>
+    ensures { OnOk result (out.new.items ≡ out.old.items
+        ++ code_text level (for 0 (option_map setting_of first.now) (option_map term_of cond.now) (option_map setting_of step.now) (codes_of body.now))) }
+{
+    put_for_head(alloc, level, first, cond, step, out)?;
+    put_inner(body, alloc, level, out)?;
+    put_line(level, b"}", out)
 }

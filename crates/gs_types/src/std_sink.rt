@@ -1,5 +1,5 @@
 // Standard output and error: the edge that is trusted.
-ghost use Rattle.std.specs.Prelude.{◌≤◌};
+ghost use Rattle.std.specs.Prelude.{◌≡◌, ◌≤◌};
 ghost use Rattle.gs_types.specs.Counts.{Rises};
 
 use crate::{Sink, SinkFailed};
@@ -13,7 +13,10 @@ pub struct StdSink<W: Write + Drop> {
 }
 
 impl<W: Write + Drop> StdSink<W> {
-    pub fn new(to: W) -> StdSink<W> {
+    /// A sink over this writer, with no fault counted.
+    pub fn new(to: W) -> StdSink<W>
+        ensures { result.faults ≡ 0 }
+    {
         StdSink { to, faults: 0 }
     }
 

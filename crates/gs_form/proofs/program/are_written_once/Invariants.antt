@@ -1,5 +1,5 @@
 use Rattle.std.proofs.Common.{◌≡◌, length}
-use Rattle.gs_form.specs.Forms.{apart, both_write}
+use Rattle.gs_form.specs.Straight.{apart, both_write}
 use Rattle.gs_form.proofs.program.are_written_once.Given as goal
 
 abbrev pub invariant-loop-rest : goal.invariant-loop-rest

@@ -1,6 +1,6 @@
 use Rattle.std.proofs.Common.{◌≡◌, drop}
 use Rattle.std.specs.List.{list_any}
-use Rattle.gs_form.specs.Forms.{is_text}
+use Rattle.gs_form.specs.Straight.{is_text}
 use Rattle.gs_form.proofs.program.has_text.Given as goal
 
 abbrev pub invariant-loop-place : goal.invariant-loop-place

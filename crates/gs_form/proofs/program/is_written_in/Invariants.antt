@@ -1,6 +1,6 @@
 use Rattle.std.proofs.Common.{◌≡◌, drop}
 use Rattle.std.specs.List.{list_any}
-use Rattle.gs_form.specs.Forms.{both_write}
+use Rattle.gs_form.specs.Straight.{both_write}
 use Rattle.gs_form.proofs.program.is_written_in.Given as goal
 
 abbrev pub invariant-loop-other : goal.invariant-loop-other

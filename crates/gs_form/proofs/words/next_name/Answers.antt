@@ -1,5 +1,5 @@
 use Rattle.std.proofs.Common.{◌≡◌, true, false, refl}
-use Rattle.gs_form.specs.Forms.{is_name}
+use Rattle.gs_form.specs.Named.{is_name}
 use Rattle.gs_form.proofs.WordLaws.{name_gives, bad_name}
 use Rattle.gs_form.proofs.words.next_name.Goals as goal
 

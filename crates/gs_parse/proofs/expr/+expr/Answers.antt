@@ -11,90 +11,90 @@ use Rattle.gs_parse.specs.Notation.{a_term, level}
 use Rattle.gs_parse.specs.Grammar.{expr}
 use Rattle.gs_parse.specs.Reads.{left, seen, Anything}
 use Rattle.gs_parse.proofs.Chain.{then_word, stop_word, then_part, stop_part, memory_err}
-use Rattle.gs_parse.proofs.Operands.{room_fit, room_deep, by_symbol, by_keyword, deep_symbol, deep_keyword, no_symbol, no_keyword, gave_leaf, operand_by, operand_stops, operand_ends, first_shown}
+use Rattle.gs_parse.proofs.Operands.{room_fit, room_deep, operand_by, operand_deep, no_symbol, no_keyword, gave_leaf, operand_stops, operand_ends, first_shown}
 use Rattle.gs_parse.proofs.Levels.{level_first, level_stop, tail_end, tail_more, tail_stop, tail_deep, height_joined, lined_two}
 use Rattle.gs_parse.proofs.expr.+expr.Goals as goal
 
-pub prefixed-returns-then-depth-ge-LIMIT-clause-reads : goal.prefixed-returns-then-depth-ge-LIMIT-clause-reads
-prefixed-returns-then-depth-ge-LIMIT-clause-reads t c = deep_symbol Minus c.args.symbol c.args.depth c.args.groups _ c.args.line _ _ c.in-Minus.is c.requires.stands (room_deep (c.args.depth + 1) c.if-depth-ge-LIMIT.true)
+pub negation-returns-then-depth-ge-LIMIT-clause-reads : goal.negation-returns-then-depth-ge-LIMIT-clause-reads
+negation-returns-then-depth-ge-LIMIT-clause-reads t c = operand_deep (sign_of_symbol Minus) c.args.depth c.args.groups _ c.args.line _ _ c.requires.stands (room_deep (c.args.depth + 1) c.if-depth-ge-LIMIT.true)
 
-pub prefixed-returns-then-depth-ge-LIMIT-2-clause-reads : goal.prefixed-returns-then-depth-ge-LIMIT-2-clause-reads
-prefixed-returns-then-depth-ge-LIMIT-2-clause-reads t c = deep_symbol Bang c.args.symbol c.args.depth c.args.groups _ c.args.line _ _ c.in-Bang.is c.requires.stands (room_deep (c.args.depth + 1) c.if-depth-ge-LIMIT-2.true)
+pub negation-returns-in-Err-clause-reads : goal.negation-returns-in-Err-clause-reads
+negation-returns-in-Err-clause-reads t c = operand_by (sign_of_symbol Minus) c.args.depth c.args.groups _ c.args.line _ _ _ _ c.requires.stands (room_fit (c.args.depth + 1) c.if-depth-ge-LIMIT.false) (stop_part a_term (level 0 (c.args.depth + 1) c.args.groups) _ _ _ _ _ _ c.in-Err.ensures.reads)
 
-pub prefixed-returns-then-groups-ge-LIMIT-clause-reads : goal.prefixed-returns-then-groups-ge-LIMIT-clause-reads
-prefixed-returns-then-groups-ge-LIMIT-clause-reads t c = deep_symbol OpenParen c.args.symbol c.args.depth c.args.groups _ c.args.line _ _ c.in-OpenParen.is c.requires.stands (room_deep c.args.groups c.if-groups-ge-LIMIT.true)
+pub negation-returns-in-Ok-negated-clause-reads : goal.negation-returns-in-Ok-negated-clause-reads
+negation-returns-in-Ok-negated-clause-reads t c = operand_by (sign_of_symbol Minus) c.args.depth c.args.groups _ c.args.line _ _ _ _ c.requires.stands (room_fit (c.args.depth + 1) c.if-depth-ge-LIMIT.false) (then_part a_term (level 0 (c.args.depth + 1) c.args.groups) _ _ _ _ _ _ _ _ c.in-Ok.ensures.reads (gave_leaf c.args.line _ (neg (term_of c.in-Ok.a.e)) _ _ _ c.in-Ok-negated.a c.requires.stands c.in-Ok-negated.ensures.0))
 
-pub prefixed-returns-in-Err-clause-reads : goal.prefixed-returns-in-Err-clause-reads
-prefixed-returns-in-Err-clause-reads t c = by_symbol Minus c.args.symbol c.args.depth c.args.groups _ c.args.line _ _ _ _ c.in-Minus.is c.requires.stands (room_fit (c.args.depth + 1) c.if-depth-ge-LIMIT.false) (stop_part a_term (level 0 (c.args.depth + 1) c.args.groups) _ _ _ _ _ _ c.in-Err.ensures.reads)
+pub negation-returns-in-Err-negated-clause-reads : goal.negation-returns-in-Err-negated-clause-reads
+negation-returns-in-Err-negated-clause-reads t c = memory_err _ _ _ _ _ _ c.in-Err-negated.ensures
 
-pub prefixed-returns-in-Ok-negated-clause-reads : goal.prefixed-returns-in-Ok-negated-clause-reads
-prefixed-returns-in-Ok-negated-clause-reads t c = by_symbol Minus c.args.symbol c.args.depth c.args.groups _ c.args.line _ _ _ _ c.in-Minus.is c.requires.stands (room_fit (c.args.depth + 1) c.if-depth-ge-LIMIT.false) (then_part a_term (level 0 (c.args.depth + 1) c.args.groups) _ _ _ _ _ _ _ _ c.in-Ok.ensures.reads (gave_leaf c.args.line _ (neg (term_of c.in-Ok.a.e)) _ _ _ c.in-Ok-negated.a c.requires.stands c.in-Ok-negated.ensures.0))
+pub inversion-returns-then-depth-ge-LIMIT-clause-reads : goal.inversion-returns-then-depth-ge-LIMIT-clause-reads
+inversion-returns-then-depth-ge-LIMIT-clause-reads t c = operand_deep (sign_of_symbol Bang) c.args.depth c.args.groups _ c.args.line _ _ c.requires.stands (room_deep (c.args.depth + 1) c.if-depth-ge-LIMIT.true)
 
-pub prefixed-returns-in-Err-negated-clause-reads : goal.prefixed-returns-in-Err-negated-clause-reads
-prefixed-returns-in-Err-negated-clause-reads t c = memory_err _ _ _ _ _ _ c.in-Err-negated.ensures
+pub inversion-returns-in-Err-clause-reads : goal.inversion-returns-in-Err-clause-reads
+inversion-returns-in-Err-clause-reads t c = operand_by (sign_of_symbol Bang) c.args.depth c.args.groups _ c.args.line _ _ _ _ c.requires.stands (room_fit (c.args.depth + 1) c.if-depth-ge-LIMIT.false) (stop_part a_term (level 0 (c.args.depth + 1) c.args.groups) _ _ _ _ _ _ c.in-Err.ensures.reads)
 
-pub prefixed-returns-in-Err-operand-clause-reads : goal.prefixed-returns-in-Err-operand-clause-reads
-prefixed-returns-in-Err-operand-clause-reads t c = by_symbol Bang c.args.symbol c.args.depth c.args.groups _ c.args.line _ _ _ _ c.in-Bang.is c.requires.stands (room_fit (c.args.depth + 1) c.if-depth-ge-LIMIT-2.false) (stop_part a_term (level 0 (c.args.depth + 1) c.args.groups) _ _ _ _ _ _ c.in-Err-operand.ensures.reads)
+pub inversion-returns-in-Ok-inverted-clause-reads : goal.inversion-returns-in-Ok-inverted-clause-reads
+inversion-returns-in-Ok-inverted-clause-reads t c = operand_by (sign_of_symbol Bang) c.args.depth c.args.groups _ c.args.line _ _ _ _ c.requires.stands (room_fit (c.args.depth + 1) c.if-depth-ge-LIMIT.false) (then_part a_term (level 0 (c.args.depth + 1) c.args.groups) _ _ _ _ _ _ _ _ c.in-Ok.ensures.reads (gave_leaf c.args.line _ (not_ (term_of c.in-Ok.a.e)) _ _ _ c.in-Ok-inverted.a c.requires.stands c.in-Ok-inverted.ensures.0))
 
-pub prefixed-returns-in-Ok-inverted-clause-reads : goal.prefixed-returns-in-Ok-inverted-clause-reads
-prefixed-returns-in-Ok-inverted-clause-reads t c = by_symbol Bang c.args.symbol c.args.depth c.args.groups _ c.args.line _ _ _ _ c.in-Bang.is c.requires.stands (room_fit (c.args.depth + 1) c.if-depth-ge-LIMIT-2.false) (then_part a_term (level 0 (c.args.depth + 1) c.args.groups) _ _ _ _ _ _ _ _ c.in-Ok-operand.ensures.reads (gave_leaf c.args.line _ (not_ (term_of c.in-Ok-operand.a.e)) _ _ _ c.in-Ok-inverted.a c.requires.stands c.in-Ok-inverted.ensures.0))
+pub inversion-returns-in-Err-inverted-clause-reads : goal.inversion-returns-in-Err-inverted-clause-reads
+inversion-returns-in-Err-inverted-clause-reads t c = memory_err _ _ _ _ _ _ c.in-Err-inverted.ensures
 
-pub prefixed-returns-in-Err-inverted-clause-reads : goal.prefixed-returns-in-Err-inverted-clause-reads
-prefixed-returns-in-Err-inverted-clause-reads t c = memory_err _ _ _ _ _ _ c.in-Err-inverted.ensures
+pub grouping-returns-then-groups-ge-LIMIT-clause-reads : goal.grouping-returns-then-groups-ge-LIMIT-clause-reads
+grouping-returns-then-groups-ge-LIMIT-clause-reads t c = operand_deep (sign_of_symbol OpenParen) c.args.depth c.args.groups _ c.args.line _ _ c.requires.stands (room_deep c.args.groups c.if-groups-ge-LIMIT.true)
 
-pub prefixed-returns-in-Err-binary-clause-reads : goal.prefixed-returns-in-Err-binary-clause-reads
-prefixed-returns-in-Err-binary-clause-reads t c = by_symbol OpenParen c.args.symbol c.args.depth c.args.groups _ c.args.line _ _ _ _ c.in-OpenParen.is c.requires.stands (room_fit c.args.groups c.if-groups-ge-LIMIT.false) (stop_part a_term (expr c.args.depth (c.args.groups + 1)) _ _ _ _ _ _ c.in-Err-binary.ensures.reads)
+pub grouping-returns-in-Err-clause-reads : goal.grouping-returns-in-Err-clause-reads
+grouping-returns-in-Err-clause-reads t c = operand_by (sign_of_symbol OpenParen) c.args.depth c.args.groups _ c.args.line _ _ _ _ c.requires.stands (room_fit c.args.groups c.if-groups-ge-LIMIT.false) (stop_part a_term (expr c.args.depth (c.args.groups + 1)) _ _ _ _ _ _ c.in-Err.ensures.reads)
 
-pub prefixed-returns-in-Ok-expect-clause-reads : goal.prefixed-returns-in-Ok-expect-clause-reads
-prefixed-returns-in-Ok-expect-clause-reads t c = by_symbol OpenParen c.args.symbol c.args.depth c.args.groups _ c.args.line _ _ _ _ c.in-OpenParen.is c.requires.stands (room_fit c.args.groups c.if-groups-ge-LIMIT.false) (then_part a_term (expr c.args.depth (c.args.groups + 1)) _ _ _ _ _ _ _ _ c.in-Ok-binary.ensures.reads (then_word a_term close_paren Anything _ _ _ _ _ _ _ c.in-Ok-expect.ensures.expects (gave_leaf c.args.line _ (term_of c.in-Ok-binary.a.e) _ _ _ c.in-Ok-binary.a c.requires.stands refl)))
+pub grouping-returns-in-Ok-expect-clause-reads : goal.grouping-returns-in-Ok-expect-clause-reads
+grouping-returns-in-Ok-expect-clause-reads t c = operand_by (sign_of_symbol OpenParen) c.args.depth c.args.groups _ c.args.line _ _ _ _ c.requires.stands (room_fit c.args.groups c.if-groups-ge-LIMIT.false) (then_part a_term (expr c.args.depth (c.args.groups + 1)) _ _ _ _ _ _ _ _ c.in-Ok.ensures.reads (then_word a_term close_paren Anything _ _ _ _ _ _ _ c.in-Ok-expect.ensures.expects (gave_leaf c.args.line _ (term_of c.in-Ok.a.e) _ _ _ c.in-Ok.a c.requires.stands refl)))
 
-pub prefixed-returns-in-Err-expect-clause-reads : goal.prefixed-returns-in-Err-expect-clause-reads
-prefixed-returns-in-Err-expect-clause-reads t c = by_symbol OpenParen c.args.symbol c.args.depth c.args.groups _ c.args.line _ _ _ _ c.in-OpenParen.is c.requires.stands (room_fit c.args.groups c.if-groups-ge-LIMIT.false) (then_part a_term (expr c.args.depth (c.args.groups + 1)) _ _ _ _ _ _ _ _ c.in-Ok-binary.ensures.reads (stop_word a_term close_paren Anything _ _ _ _ _ c.in-Err-expect.ensures.expects))
+pub grouping-returns-in-Err-expect-clause-reads : goal.grouping-returns-in-Err-expect-clause-reads
+grouping-returns-in-Err-expect-clause-reads t c = operand_by (sign_of_symbol OpenParen) c.args.depth c.args.groups _ c.args.line _ _ _ _ c.requires.stands (room_fit c.args.groups c.if-groups-ge-LIMIT.false) (then_part a_term (expr c.args.depth (c.args.groups + 1)) _ _ _ _ _ _ _ _ c.in-Ok.ensures.reads (stop_word a_term close_paren Anything _ _ _ _ _ c.in-Err-expect.ensures.expects))
 
 pub prefixed-returns-in_default-clause-reads : goal.prefixed-returns-in_default-clause-reads
 prefixed-returns-in_default-clause-reads t c = operand_stops (sign_of_symbol c.args.symbol) c.args.depth c.args.groups _ c.args.line _ _ c.requires.stands (no_symbol c.args.symbol c.args.depth c.args.groups c.in_default.not-Minus c.in_default.not-Bang c.in_default.not-OpenParen)
 
-pub called-returns-then-depth-ge-LIMIT-clause-reads : goal.called-returns-then-depth-ge-LIMIT-clause-reads
-called-returns-then-depth-ge-LIMIT-clause-reads t c = deep_keyword Atoi c.args.keyword c.args.depth c.args.groups _ c.args.line _ _ c.in-Atoi.is c.requires.stands (room_deep (c.args.depth + 1) c.if-depth-ge-LIMIT.true)
+pub atoi_call-returns-then-depth-ge-LIMIT-clause-reads : goal.atoi_call-returns-then-depth-ge-LIMIT-clause-reads
+atoi_call-returns-then-depth-ge-LIMIT-clause-reads t c = operand_deep (sign_of_keyword Atoi) c.args.depth c.args.groups _ c.args.line _ _ c.requires.stands (room_deep (c.args.depth + 1) c.if-depth-ge-LIMIT.true)
 
-pub called-returns-then-depth-ge-LIMIT-2-clause-reads : goal.called-returns-then-depth-ge-LIMIT-2-clause-reads
-called-returns-then-depth-ge-LIMIT-2-clause-reads t c = deep_keyword Strcmp c.args.keyword c.args.depth c.args.groups _ c.args.line _ _ c.in-Strcmp.is c.requires.stands (room_deep (c.args.depth + 1) c.if-depth-ge-LIMIT-2.true)
+pub atoi_call-returns-in-Err-clause-reads : goal.atoi_call-returns-in-Err-clause-reads
+atoi_call-returns-in-Err-clause-reads t c = operand_by (sign_of_keyword Atoi) c.args.depth c.args.groups _ c.args.line _ _ _ _ c.requires.stands (room_fit (c.args.depth + 1) c.if-depth-ge-LIMIT.false) (stop_word a_term open_paren Anything _ _ _ _ _ c.in-Err.ensures.expects)
 
-pub called-returns-in-Err-clause-reads : goal.called-returns-in-Err-clause-reads
-called-returns-in-Err-clause-reads t c = by_keyword Atoi c.args.keyword c.args.depth c.args.groups _ c.args.line _ _ _ _ c.in-Atoi.is c.requires.stands (room_fit (c.args.depth + 1) c.if-depth-ge-LIMIT.false) (stop_word a_term open_paren Anything _ _ _ _ _ c.in-Err.ensures.expects)
+pub atoi_call-returns-in-Err-binary-clause-reads : goal.atoi_call-returns-in-Err-binary-clause-reads
+atoi_call-returns-in-Err-binary-clause-reads t c = operand_by (sign_of_keyword Atoi) c.args.depth c.args.groups _ c.args.line _ _ _ _ c.requires.stands (room_fit (c.args.depth + 1) c.if-depth-ge-LIMIT.false) (then_word a_term open_paren Anything _ _ _ _ _ _ _ c.in-Ok.ensures.expects (stop_part a_term (expr (c.args.depth + 1) c.args.groups) _ _ _ _ _ _ c.in-Err-binary.ensures.reads))
 
-pub called-returns-in-Err-binary-clause-reads : goal.called-returns-in-Err-binary-clause-reads
-called-returns-in-Err-binary-clause-reads t c = by_keyword Atoi c.args.keyword c.args.depth c.args.groups _ c.args.line _ _ _ _ c.in-Atoi.is c.requires.stands (room_fit (c.args.depth + 1) c.if-depth-ge-LIMIT.false) (then_word a_term open_paren Anything _ _ _ _ _ _ _ c.in-Ok.ensures.expects (stop_part a_term (expr (c.args.depth + 1) c.args.groups) _ _ _ _ _ _ c.in-Err-binary.ensures.reads))
+pub atoi_call-returns-in-Err-expect-clause-reads : goal.atoi_call-returns-in-Err-expect-clause-reads
+atoi_call-returns-in-Err-expect-clause-reads t c = operand_by (sign_of_keyword Atoi) c.args.depth c.args.groups _ c.args.line _ _ _ _ c.requires.stands (room_fit (c.args.depth + 1) c.if-depth-ge-LIMIT.false) (then_word a_term open_paren Anything _ _ _ _ _ _ _ c.in-Ok.ensures.expects (then_part a_term (expr (c.args.depth + 1) c.args.groups) _ _ _ _ _ _ _ _ c.in-Ok-binary.ensures.reads (stop_word a_term close_paren Anything _ _ _ _ _ c.in-Err-expect.ensures.expects)))
 
-pub called-returns-in-Err-expect-clause-reads : goal.called-returns-in-Err-expect-clause-reads
-called-returns-in-Err-expect-clause-reads t c = by_keyword Atoi c.args.keyword c.args.depth c.args.groups _ c.args.line _ _ _ _ c.in-Atoi.is c.requires.stands (room_fit (c.args.depth + 1) c.if-depth-ge-LIMIT.false) (then_word a_term open_paren Anything _ _ _ _ _ _ _ c.in-Ok.ensures.expects (then_part a_term (expr (c.args.depth + 1) c.args.groups) _ _ _ _ _ _ _ _ c.in-Ok-binary.ensures.reads (stop_word a_term close_paren Anything _ _ _ _ _ c.in-Err-expect.ensures.expects)))
+pub atoi_call-returns-in-Ok-atoi_of-clause-reads : goal.atoi_call-returns-in-Ok-atoi_of-clause-reads
+atoi_call-returns-in-Ok-atoi_of-clause-reads t c = operand_by (sign_of_keyword Atoi) c.args.depth c.args.groups _ c.args.line _ _ _ _ c.requires.stands (room_fit (c.args.depth + 1) c.if-depth-ge-LIMIT.false) (then_word a_term open_paren Anything _ _ _ _ _ _ _ c.in-Ok.ensures.expects (then_part a_term (expr (c.args.depth + 1) c.args.groups) _ _ _ _ _ _ _ _ c.in-Ok-binary.ensures.reads (then_word a_term close_paren Anything _ _ _ _ _ _ _ c.in-Ok-expect.ensures.expects (gave_leaf c.args.line _ (atoi (term_of c.in-Ok-binary.a.e)) _ _ _ c.in-Ok-atoi_of.a c.requires.stands c.in-Ok-atoi_of.ensures.0))))
 
-pub called-returns-in-Ok-atoi_of-clause-reads : goal.called-returns-in-Ok-atoi_of-clause-reads
-called-returns-in-Ok-atoi_of-clause-reads t c = by_keyword Atoi c.args.keyword c.args.depth c.args.groups _ c.args.line _ _ _ _ c.in-Atoi.is c.requires.stands (room_fit (c.args.depth + 1) c.if-depth-ge-LIMIT.false) (then_word a_term open_paren Anything _ _ _ _ _ _ _ c.in-Ok.ensures.expects (then_part a_term (expr (c.args.depth + 1) c.args.groups) _ _ _ _ _ _ _ _ c.in-Ok-binary.ensures.reads (then_word a_term close_paren Anything _ _ _ _ _ _ _ c.in-Ok-expect.ensures.expects (gave_leaf c.args.line _ (atoi (term_of c.in-Ok-binary.a.e)) _ _ _ c.in-Ok-atoi_of.a c.requires.stands c.in-Ok-atoi_of.ensures.0))))
+pub atoi_call-returns-in-Err-atoi_of-clause-reads : goal.atoi_call-returns-in-Err-atoi_of-clause-reads
+atoi_call-returns-in-Err-atoi_of-clause-reads t c = memory_err _ _ _ _ _ _ c.in-Err-atoi_of.ensures
 
-pub called-returns-in-Err-atoi_of-clause-reads : goal.called-returns-in-Err-atoi_of-clause-reads
-called-returns-in-Err-atoi_of-clause-reads t c = memory_err _ _ _ _ _ _ c.in-Err-atoi_of.ensures
+pub strcmp_call-returns-then-depth-ge-LIMIT-clause-reads : goal.strcmp_call-returns-then-depth-ge-LIMIT-clause-reads
+strcmp_call-returns-then-depth-ge-LIMIT-clause-reads t c = operand_deep (sign_of_keyword Strcmp) c.args.depth c.args.groups _ c.args.line _ _ c.requires.stands (room_deep (c.args.depth + 1) c.if-depth-ge-LIMIT.true)
 
-pub called-returns-in-Err-expect-2-clause-reads : goal.called-returns-in-Err-expect-2-clause-reads
-called-returns-in-Err-expect-2-clause-reads t c = by_keyword Strcmp c.args.keyword c.args.depth c.args.groups _ c.args.line _ _ _ _ c.in-Strcmp.is c.requires.stands (room_fit (c.args.depth + 1) c.if-depth-ge-LIMIT-2.false) (stop_word a_term open_paren Anything _ _ _ _ _ c.in-Err-expect-2.ensures.expects)
+pub strcmp_call-returns-in-Err-clause-reads : goal.strcmp_call-returns-in-Err-clause-reads
+strcmp_call-returns-in-Err-clause-reads t c = operand_by (sign_of_keyword Strcmp) c.args.depth c.args.groups _ c.args.line _ _ _ _ c.requires.stands (room_fit (c.args.depth + 1) c.if-depth-ge-LIMIT.false) (stop_word a_term open_paren Anything _ _ _ _ _ c.in-Err.ensures.expects)
 
-pub called-returns-in-Err-binary-2-clause-reads : goal.called-returns-in-Err-binary-2-clause-reads
-called-returns-in-Err-binary-2-clause-reads t c = by_keyword Strcmp c.args.keyword c.args.depth c.args.groups _ c.args.line _ _ _ _ c.in-Strcmp.is c.requires.stands (room_fit (c.args.depth + 1) c.if-depth-ge-LIMIT-2.false) (then_word a_term open_paren Anything _ _ _ _ _ _ _ c.in-Ok-expect-2.ensures.expects (stop_part a_term (expr (c.args.depth + 1) c.args.groups) _ _ _ _ _ _ c.in-Err-binary-2.ensures.reads))
+pub strcmp_call-returns-in-Err-binary-clause-reads : goal.strcmp_call-returns-in-Err-binary-clause-reads
+strcmp_call-returns-in-Err-binary-clause-reads t c = operand_by (sign_of_keyword Strcmp) c.args.depth c.args.groups _ c.args.line _ _ _ _ c.requires.stands (room_fit (c.args.depth + 1) c.if-depth-ge-LIMIT.false) (then_word a_term open_paren Anything _ _ _ _ _ _ _ c.in-Ok.ensures.expects (stop_part a_term (expr (c.args.depth + 1) c.args.groups) _ _ _ _ _ _ c.in-Err-binary.ensures.reads))
 
-pub called-returns-in-Err-expect-3-clause-reads : goal.called-returns-in-Err-expect-3-clause-reads
-called-returns-in-Err-expect-3-clause-reads t c = by_keyword Strcmp c.args.keyword c.args.depth c.args.groups _ c.args.line _ _ _ _ c.in-Strcmp.is c.requires.stands (room_fit (c.args.depth + 1) c.if-depth-ge-LIMIT-2.false) (then_word a_term open_paren Anything _ _ _ _ _ _ _ c.in-Ok-expect-2.ensures.expects (then_part a_term (expr (c.args.depth + 1) c.args.groups) _ _ _ _ _ _ _ _ c.in-Ok-binary-2.ensures.reads (stop_word a_term comma Anything _ _ _ _ _ c.in-Err-expect-3.ensures.expects)))
+pub strcmp_call-returns-in-Err-expect-clause-reads : goal.strcmp_call-returns-in-Err-expect-clause-reads
+strcmp_call-returns-in-Err-expect-clause-reads t c = operand_by (sign_of_keyword Strcmp) c.args.depth c.args.groups _ c.args.line _ _ _ _ c.requires.stands (room_fit (c.args.depth + 1) c.if-depth-ge-LIMIT.false) (then_word a_term open_paren Anything _ _ _ _ _ _ _ c.in-Ok.ensures.expects (then_part a_term (expr (c.args.depth + 1) c.args.groups) _ _ _ _ _ _ _ _ c.in-Ok-binary.ensures.reads (stop_word a_term comma Anything _ _ _ _ _ c.in-Err-expect.ensures.expects)))
 
-pub called-returns-in-Err-binary-3-clause-reads : goal.called-returns-in-Err-binary-3-clause-reads
-called-returns-in-Err-binary-3-clause-reads t c = by_keyword Strcmp c.args.keyword c.args.depth c.args.groups _ c.args.line _ _ _ _ c.in-Strcmp.is c.requires.stands (room_fit (c.args.depth + 1) c.if-depth-ge-LIMIT-2.false) (then_word a_term open_paren Anything _ _ _ _ _ _ _ c.in-Ok-expect-2.ensures.expects (then_part a_term (expr (c.args.depth + 1) c.args.groups) _ _ _ _ _ _ _ _ c.in-Ok-binary-2.ensures.reads (then_word a_term comma Anything _ _ _ _ _ _ _ c.in-Ok-expect-3.ensures.expects (stop_part a_term (expr (c.args.depth + 1) c.args.groups) _ _ _ _ _ _ c.in-Err-binary-3.ensures.reads))))
+pub strcmp_call-returns-in-Err-binary-2-clause-reads : goal.strcmp_call-returns-in-Err-binary-2-clause-reads
+strcmp_call-returns-in-Err-binary-2-clause-reads t c = operand_by (sign_of_keyword Strcmp) c.args.depth c.args.groups _ c.args.line _ _ _ _ c.requires.stands (room_fit (c.args.depth + 1) c.if-depth-ge-LIMIT.false) (then_word a_term open_paren Anything _ _ _ _ _ _ _ c.in-Ok.ensures.expects (then_part a_term (expr (c.args.depth + 1) c.args.groups) _ _ _ _ _ _ _ _ c.in-Ok-binary.ensures.reads (then_word a_term comma Anything _ _ _ _ _ _ _ c.in-Ok-expect.ensures.expects (stop_part a_term (expr (c.args.depth + 1) c.args.groups) _ _ _ _ _ _ c.in-Err-binary-2.ensures.reads))))
 
-pub called-returns-in-Err-expect-4-clause-reads : goal.called-returns-in-Err-expect-4-clause-reads
-called-returns-in-Err-expect-4-clause-reads t c = by_keyword Strcmp c.args.keyword c.args.depth c.args.groups _ c.args.line _ _ _ _ c.in-Strcmp.is c.requires.stands (room_fit (c.args.depth + 1) c.if-depth-ge-LIMIT-2.false) (then_word a_term open_paren Anything _ _ _ _ _ _ _ c.in-Ok-expect-2.ensures.expects (then_part a_term (expr (c.args.depth + 1) c.args.groups) _ _ _ _ _ _ _ _ c.in-Ok-binary-2.ensures.reads (then_word a_term comma Anything _ _ _ _ _ _ _ c.in-Ok-expect-3.ensures.expects (then_part a_term (expr (c.args.depth + 1) c.args.groups) _ _ _ _ _ _ _ _ c.in-Ok-binary-3.ensures.reads (stop_word a_term close_paren Anything _ _ _ _ _ c.in-Err-expect-4.ensures.expects)))))
+pub strcmp_call-returns-in-Err-expect-2-clause-reads : goal.strcmp_call-returns-in-Err-expect-2-clause-reads
+strcmp_call-returns-in-Err-expect-2-clause-reads t c = operand_by (sign_of_keyword Strcmp) c.args.depth c.args.groups _ c.args.line _ _ _ _ c.requires.stands (room_fit (c.args.depth + 1) c.if-depth-ge-LIMIT.false) (then_word a_term open_paren Anything _ _ _ _ _ _ _ c.in-Ok.ensures.expects (then_part a_term (expr (c.args.depth + 1) c.args.groups) _ _ _ _ _ _ _ _ c.in-Ok-binary.ensures.reads (then_word a_term comma Anything _ _ _ _ _ _ _ c.in-Ok-expect.ensures.expects (then_part a_term (expr (c.args.depth + 1) c.args.groups) _ _ _ _ _ _ _ _ c.in-Ok-binary-2.ensures.reads (stop_word a_term close_paren Anything _ _ _ _ _ c.in-Err-expect-2.ensures.expects)))))
 
-pub called-returns-in-Ok-strcmp_of-clause-reads : goal.called-returns-in-Ok-strcmp_of-clause-reads
-called-returns-in-Ok-strcmp_of-clause-reads t c = by_keyword Strcmp c.args.keyword c.args.depth c.args.groups _ c.args.line _ _ _ _ c.in-Strcmp.is c.requires.stands (room_fit (c.args.depth + 1) c.if-depth-ge-LIMIT-2.false) (then_word a_term open_paren Anything _ _ _ _ _ _ _ c.in-Ok-expect-2.ensures.expects (then_part a_term (expr (c.args.depth + 1) c.args.groups) _ _ _ _ _ _ _ _ c.in-Ok-binary-2.ensures.reads (then_word a_term comma Anything _ _ _ _ _ _ _ c.in-Ok-expect-3.ensures.expects (then_part a_term (expr (c.args.depth + 1) c.args.groups) _ _ _ _ _ _ _ _ c.in-Ok-binary-3.ensures.reads (then_word a_term close_paren Anything _ _ _ _ _ _ _ c.in-Ok-expect-4.ensures.expects (gave_leaf c.args.line _ (strcmp (term_of c.in-Ok-binary-2.a.e) (term_of c.in-Ok-binary-3.b.e)) _ _ _ c.in-Ok-strcmp_of.a c.requires.stands c.in-Ok-strcmp_of.ensures.0))))))
+pub strcmp_call-returns-in-Ok-strcmp_of-clause-reads : goal.strcmp_call-returns-in-Ok-strcmp_of-clause-reads
+strcmp_call-returns-in-Ok-strcmp_of-clause-reads t c = operand_by (sign_of_keyword Strcmp) c.args.depth c.args.groups _ c.args.line _ _ _ _ c.requires.stands (room_fit (c.args.depth + 1) c.if-depth-ge-LIMIT.false) (then_word a_term open_paren Anything _ _ _ _ _ _ _ c.in-Ok.ensures.expects (then_part a_term (expr (c.args.depth + 1) c.args.groups) _ _ _ _ _ _ _ _ c.in-Ok-binary.ensures.reads (then_word a_term comma Anything _ _ _ _ _ _ _ c.in-Ok-expect.ensures.expects (then_part a_term (expr (c.args.depth + 1) c.args.groups) _ _ _ _ _ _ _ _ c.in-Ok-binary-2.ensures.reads (then_word a_term close_paren Anything _ _ _ _ _ _ _ c.in-Ok-expect-2.ensures.expects (gave_leaf c.args.line _ (strcmp (term_of c.in-Ok-binary.a.e) (term_of c.in-Ok-binary-2.b.e)) _ _ _ c.in-Ok-strcmp_of.a c.requires.stands c.in-Ok-strcmp_of.ensures.0))))))
 
-pub called-returns-in-Err-strcmp_of-clause-reads : goal.called-returns-in-Err-strcmp_of-clause-reads
-called-returns-in-Err-strcmp_of-clause-reads t c = memory_err _ _ _ _ _ _ c.in-Err-strcmp_of.ensures
+pub strcmp_call-returns-in-Err-strcmp_of-clause-reads : goal.strcmp_call-returns-in-Err-strcmp_of-clause-reads
+strcmp_call-returns-in-Err-strcmp_of-clause-reads t c = memory_err _ _ _ _ _ _ c.in-Err-strcmp_of.ensures
 
 pub called-returns-in_default-clause-reads : goal.called-returns-in_default-clause-reads
 called-returns-in_default-clause-reads t c = operand_stops (sign_of_keyword c.args.keyword) c.args.depth c.args.groups _ c.args.line _ _ c.requires.stands (no_keyword c.args.keyword c.args.depth c.args.groups c.in_default.not-Atoi c.in_default.not-Strcmp)

@@ -6,6 +6,21 @@ use Rattle.gs_parse.specs.Reads.{left, seen}
 use Rattle.gs_parse.specs.Frame.{Onward}
 use Rattle.gs_parse.proofs.expr.+expr.Given as goal
 
+abbrev pub decreases-negation : goal.decreases-negation
+decreases-negation l = ((64 - l.depth) + (64 - l.groups)) * 16
+
+abbrev pub decreases-inversion : goal.decreases-inversion
+decreases-inversion l = ((64 - l.depth) + (64 - l.groups)) * 16
+
+abbrev pub decreases-grouping : goal.decreases-grouping
+decreases-grouping l = ((64 - l.depth) + (64 - l.groups)) * 16
+
+abbrev pub decreases-atoi_call : goal.decreases-atoi_call
+decreases-atoi_call l = ((64 - l.depth) + (64 - l.groups)) * 16
+
+abbrev pub decreases-strcmp_call : goal.decreases-strcmp_call
+decreases-strcmp_call l = ((64 - l.depth) + (64 - l.groups)) * 16
+
 abbrev pub decreases-prefixed : goal.decreases-prefixed
 decreases-prefixed l = ((64 - l.depth) + (64 - l.groups)) * 16 + 1
 

@@ -1,6 +1,6 @@
 use Rattle.std.proofs.Common.{◌≡◌, ◌≢◌, ◌≤◌, ◌⊎◌, List, ℕ, take, true, IsSome}
 use Rattle.std.specs.Prelude.{Any}
-use Rattle.gs_form.specs.declared.idl.Way.TheVariants.{Makes}
+use Rattle.gs_form.specs.declared.program.Way.TheVariants.{Makes}
 use Rattle.gs_form.specs.declared.program.Place.{Place}
 use Rattle.gs_run.specs.Files.{content_of}
 use Rattle.gs_run.specs.Names.{has_name}

@@ -1,5 +1,5 @@
 use Rattle.std.proofs.Common.{◌≡◌, ◌≢◌, List, ℕ, inl, inr, ⊎_elim, sym, ◌∙◌}
-use Rattle.gs_form.specs.declared.idl.Way.TheVariants.{Reads}
+use Rattle.gs_form.specs.declared.program.Way.TheVariants.{Reads}
 use Rattle.gs_form.specs.declared.program.Place.{Place}
 use Rattle.gs_run.proofs.Gathering.{any_taken, taken_any, any_whole, adds_holds, adds_only}
 use Rattle.gs_run.proofs.originals.Written.add_writes.Goals as goal

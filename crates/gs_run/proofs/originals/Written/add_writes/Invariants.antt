@@ -1,6 +1,6 @@
 use Rattle.std.proofs.Common.{◌≡◌, ◌≢◌, ◌⊎◌, List, ℕ, take, true}
 use Rattle.std.specs.Prelude.{Any}
-use Rattle.gs_form.specs.declared.idl.Way.TheVariants.{Reads}
+use Rattle.gs_form.specs.declared.program.Way.TheVariants.{Reads}
 use Rattle.gs_form.specs.declared.program.Place.{Place}
 use Rattle.gs_run.specs.Names.{has_name}
 use Rattle.gs_run.proofs.originals.Written.add_writes.Given as goal

@@ -1,0 +1,10 @@
+pub mod Again
+pub mod AgainCodes
+pub mod AgainParts
+pub mod AgainProgram
+pub mod AgainTerms
+pub mod ReadsBack
+pub mod Within
+pub mod WithinCodes
+pub mod WithinProgram
+pub mod WithinTerms

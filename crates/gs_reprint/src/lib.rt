@@ -1,0 +1,4 @@
+//! A printed program reads back as an equal one.
+#![tactic(auto)]
+
+pub mod laws;

@@ -1,0 +1,77 @@
+// How a text goes wrong.
+ghost use Rattle.std.specs.Prelude.{◌≡◌};
+ghost use Rattle.gs_run.specs.Kinds.{idl_kind_text, parse_kind_text, check_kind_text, kind_text};
+
+use gs_check::CheckKind;
+use gs_idl::IdlKind;
+use gs_parse::ParseKind;
+
+/// How a text goes wrong: an IDL by its grammar, a program by its grammar or its checks, or a text that says what isn't
+/// carried out yet.
+#[derive(Clone, Copy, PartialEq, Eq, Debug)]
+pub enum TextKind {
+    Idl { kind: IdlKind },
+    Program { kind: ParseKind },
+    Check { kind: CheckKind },
+    NotYet,
+}
+
+fn idl_kind_text(kind: IdlKind) -> &'static [u8]
+    ensures { result.now ≡ idl_kind_text kind }
+{
+    match kind {
+        IdlKind::TooLong => b"TooLong",
+        IdlKind::BadByte => b"BadByte",
+        IdlKind::OpenComment => b"OpenComment",
+        IdlKind::LongName => b"LongName",
+        IdlKind::Unexpected => b"Unexpected",
+        IdlKind::BadCombination => b"BadCombination",
+        IdlKind::TooMany => b"TooMany",
+        IdlKind::Twice => b"Twice",
+        IdlKind::Reserved => b"Reserved",
+    }
+}
+
+fn parse_kind_text(kind: ParseKind) -> &'static [u8]
+    ensures { result.now ≡ parse_kind_text kind }
+{
+    match kind {
+        ParseKind::TooLong => b"TooLong",
+        ParseKind::BadByte => b"BadByte",
+        ParseKind::OpenComment => b"OpenComment",
+        ParseKind::OpenString => b"OpenString",
+        ParseKind::BadEscape => b"BadEscape",
+        ParseKind::StringTooLong => b"StringTooLong",
+        ParseKind::LongName => b"LongName",
+        ParseKind::BadNumber => b"BadNumber",
+        ParseKind::WideNumber => b"WideNumber",
+        ParseKind::TooDeep => b"TooDeep",
+        ParseKind::Unexpected => b"Unexpected",
+    }
+}
+
+fn check_kind_text(kind: CheckKind) -> &'static [u8]
+    ensures { result.now ≡ check_kind_text kind }
+{
+    match kind {
+        CheckKind::Twice => b"Twice",
+        CheckKind::TooMany => b"TooMany",
+        CheckKind::Unknown => b"Unknown",
+        CheckKind::WrongKind => b"WrongKind",
+        CheckKind::WrongCount => b"WrongCount",
+        CheckKind::NotVariable => b"NotVariable",
+        CheckKind::BadFormat => b"BadFormat",
+    }
+}
+
+/// The word for a kind.
+pub(crate) fn kind_text(kind: TextKind) -> &'static [u8]
+    ensures { result.now ≡ kind_text kind }
+{
+    match kind {
+        TextKind::Idl { kind } => idl_kind_text(kind),
+        TextKind::Program { kind } => parse_kind_text(kind),
+        TextKind::Check { kind } => check_kind_text(kind),
+        TextKind::NotYet => b"NotYet",
+    }
+}

@@ -1,0 +1,10 @@
+pub mod Runs
+pub mod Cuts
+pub mod Numbers
+pub mod Strings
+pub mod Spelling
+pub mod Words
+pub mod Symbols
+pub mod Terms
+pub mod Lines
+pub mod Programs
