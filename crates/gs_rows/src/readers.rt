@@ -100,6 +100,21 @@ fn a_check_prints_the_interface_and_the_program(rt: HostRuntime) -> Result<(), F
     Ok(())
 }
 
+// A check of these files ends with this status and line, and writes nothing.
+fn refuses(
+    rt: &impl Abort,
+    alloc: Global,
+    files: &[(&[u8], &[u8])],
+    wanted: u8,
+    line: &[u8],
+) -> Result<(), Fail> {
+    let (status, out, err) = check(rt, alloc, files, Vec::new(alloc))?;
+    assert_eq!(*rt; status, wanted);
+    assert_eq!(*rt; err.bytes(), line);
+    assert!(*rt; out.bytes().is_empty());
+    Ok(())
+}
+
 #[test]
 fn a_check_names_the_first_text_that_is_absent_too_long_or_wrong(
     rt: HostRuntime,
@@ -109,27 +124,30 @@ fn a_check_names_the_first_text_that_is_absent_too_long_or_wrong(
     for _ in 0..65_537 {
         long.push(b' ')?;
     }
-    let cases: [(&[(&[u8], &[u8])], u8, &[u8]); 5] = [
-        (&[(b"p.c", b"")], 3, b"gs: no text: k.idl\n"),
-        (&[(b"k.idl", b"")], 3, b"gs: no text: p.c\n"),
-        (&[(b"k.idl", &long)], 4, b"gs: bad text: k.idl:0: TooLong\n"),
-        (
-            &[(b"k.idl", b""), (b"p.c", &long)],
-            4,
-            b"gs: bad text: p.c:0: TooLong\n",
-        ),
-        (
-            &[(b"k.idl", b"\n\n"), (b"p.c", b"")],
-            4,
-            b"gs: bad text: k.idl:3: Unexpected\n",
-        ),
-    ];
-    for (files, wanted, line) in cases {
-        let (status, out, err) = check(&rt, alloc, files, Vec::new(alloc))?;
-        assert_eq!(rt; status, wanted);
-        assert_eq!(rt; err.bytes(), line);
-        assert!(rt; out.bytes().is_empty());
-    }
+    let long = long.as_slice();
+    refuses(&rt, alloc, &[(b"p.c", b"")], 3, b"gs: no text: k.idl\n")?;
+    refuses(&rt, alloc, &[(b"k.idl", b"")], 3, b"gs: no text: p.c\n")?;
+    refuses(
+        &rt,
+        alloc,
+        &[(b"k.idl", long)],
+        4,
+        b"gs: bad text: k.idl:0: TooLong\n",
+    )?;
+    refuses(
+        &rt,
+        alloc,
+        &[(b"k.idl", b""), (b"p.c", long)],
+        4,
+        b"gs: bad text: p.c:0: TooLong\n",
+    )?;
+    refuses(
+        &rt,
+        alloc,
+        &[(b"k.idl", b"\n\n"), (b"p.c", b"")],
+        4,
+        b"gs: bad text: k.idl:3: Unexpected\n",
+    )?;
     Ok(())
 }
 
