@@ -212,21 +212,7 @@ short_ops='interface KIT {\n    void join(in File a, in File b, out File c);\n  
 idl "$short_ops"; printf 'main(){int n;GS_On();if(n<1)count("F",&n);GS_Off(0);}' > p.c
 printf "$short_ops"'main() {\n    int n;\n    GS_On();\n    if ((n < 1)) {\n        count("F", &n);\n    }\n    GS_Off(0);\n}\n' > .print
 accepted "the short program"
-idl 'interface STUDY {\n    void subst(in File cfg, in int v, out File job);\n    void simulate(in File job, out File res);\n    void post(in File res, inout File all);\n};\n'
-cat > p.c <<'END'
-#include "study.h"
-int main() {
-  int i;
-  GS_On();
-  for (i = 1; i <= 3; i++) {
-    subst("base.cfg", i, "job.tmp");
-    simulate("job.tmp", "res.tmp");
-    post("res.tmp", "all.txt");
-  }
-  GS_Off(0);
-  return 0;
-}
-END
+cp "$top/examples/check/study.idl" k.idl; cp "$top/examples/check/study.c" p.c
 {
     cat k.idl
     printf 'main() {\n    int i;\n    GS_On();\n    for (i = 1; (i <= 3); i = (i + 1)) {\n        subst("base.cfg", i, "job.tmp");\n'
