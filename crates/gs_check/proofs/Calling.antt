@@ -3,24 +3,24 @@ use Rattle.std.proofs.Common.{◌≡◌, ℕ, ◌+◌, ◌<◌, ◌≤◌, Bool,
 use Rattle.std.proofs.lemmas.List.{drop_more, take_more, map-append, length-take-le}
 use Rattle.std.specs.Prelude.{Option, None, is_some}
 use Rattle.std.proofs.lemmas.Option.{get_or_from_slice_get, slice_get_within}
-use Rattle.gs_idl.specs.Interface.{Op, Param}
+use Rattle.gs_idl.specs.Interface.{Signature, Param}
 use Rattle.gs_tree.specs.declared.tree.Argument.{Argument}
 use Rattle.gs_tree.specs.View.{term_of, passed_of}
 use Rattle.gs_check.specs.declared.kind.Fault.{Fault}
 use Rattle.gs_check.specs.Faults.{Vars, is_output, is_variable_of, stands_out, ◌then◌, passed_fault, all_passed_fault}
 
 -- the operation at a place has room for as many arguments
-pub has_room : (ops : List Op) (i n : ℕ) (o p : Op) → slice_get ops i ≡ Some o → slice_get ops i ≡ Some p → n ≤ length o.params → n ≤ length p.params
+pub has_room : (ops : List Signature) (i n : ℕ) (o p : Signature) → slice_get ops i ≡ Some o → slice_get ops i ≡ Some p → n ≤ length o.params → n ≤ length p.params
 has_room ops i n o p e f h =
     let same : Some o ≡ Some p = sym e ∙ f in
     let o_is_p : o ≡ p = cc in
-    subst (λ (x : Op). n ≤ length x.params) o_is_p h
+    subst (λ (x : Signature). n ≤ length x.params) o_is_p h
 
-pub same_length : (ops : List Op) (i n : ℕ) (o p : Op) → slice_get ops i ≡ Some o → slice_get ops i ≡ Some p → n ≡ length o.params → n ≡ length p.params
+pub same_length : (ops : List Signature) (i n : ℕ) (o p : Signature) → slice_get ops i ≡ Some o → slice_get ops i ≡ Some p → n ≡ length o.params → n ≡ length p.params
 same_length ops i n o p e f h =
     let same : Some o ≡ Some p = sym e ∙ f in
     let o_is_p : o ≡ p = cc in
-    subst (λ (x : Op). n ≡ length x.params) o_is_p h
+    subst (λ (x : Signature). n ≡ length x.params) o_is_p h
 
 pub param_at : (ps : List Param) (k : ℕ) (p : Param) → slice_get ps k ≡ Some p → drop k ps ≡ p ∷ drop (k + 1) ps
 param_at ps k p e = drop_more ps k p (slice_get_within ps k p e) ∙ ap (λ x. x ∷ drop (k + 1) ps) (get_or_from_slice_get ps k p p e)

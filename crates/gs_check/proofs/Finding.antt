@@ -3,10 +3,10 @@ use Rattle.std.proofs.Common.{◌≡◌, ℕ, zero, suc, ◌+◌, ◌<◌, Bool,
 use Rattle.std.specs.Prelude.{if◌then◌else◌}
 use Rattle.std.specs.Str.{bytes_eq}
 use Rattle.std.proofs.Math.Numerals.{add-one}
-use Rattle.gs_idl.specs.Interface.{Op}
+use Rattle.gs_idl.specs.Interface.{Signature}
 use Rattle.gs_check.specs.Faults.{find_op}
 
-pub find_here : (ops : List Op) (i : ℕ) (name shown : List ℕ) → i < length ops → ((o : Op) → slice_get ops i ≡ Some o → shown ≡ o.name) →
+pub find_here : (ops : List Signature) (i : ℕ) (name shown : List ℕ) → i < length ops → ((o : Signature) → slice_get ops i ≡ Some o → shown ≡ o.name) →
     bytes_eq shown name ≡ true → find_op (drop i ops) name ≡ slice_get ops i
 find_here [] i name shown h f e = absurd (omega arith)
 find_here (o ∷ os) zero name shown h f e =
@@ -14,7 +14,7 @@ find_here (o ∷ os) zero name shown h f e =
     ap (λ (b : Bool). if b then Some o else find_op os name) t
 find_here (o ∷ os) (suc i) name shown h f e = find_here os i name shown (omega arith) f e
 
-find_past_at : (ops : List Op) (i : ℕ) (name shown : List ℕ) → i < length ops → ((o : Op) → slice_get ops i ≡ Some o → shown ≡ o.name) →
+find_past_at : (ops : List Signature) (i : ℕ) (name shown : List ℕ) → i < length ops → ((o : Signature) → slice_get ops i ≡ Some o → shown ≡ o.name) →
     bytes_eq shown name ≡ false → find_op (drop i ops) name ≡ find_op (drop (suc i) ops) name
 find_past_at [] i name shown h f e = absurd (omega arith)
 find_past_at (o ∷ os) zero name shown h f e =
@@ -22,6 +22,6 @@ find_past_at (o ∷ os) zero name shown h f e =
     ap (λ (b : Bool). if b then Some o else find_op os name) t
 find_past_at (o ∷ os) (suc i) name shown h f e = find_past_at os i name shown (omega arith) f e
 
-pub find_past : (ops : List Op) (i : ℕ) (name shown : List ℕ) → i < length ops → ((o : Op) → slice_get ops i ≡ Some o → shown ≡ o.name) →
+pub find_past : (ops : List Signature) (i : ℕ) (name shown : List ℕ) → i < length ops → ((o : Signature) → slice_get ops i ≡ Some o → shown ≡ o.name) →
     bytes_eq shown name ≡ false → find_op (drop i ops) name ≡ find_op (drop (i + 1) ops) name
 find_past ops i name shown h f e = rw add-one (find_past_at ops i name shown h f e)

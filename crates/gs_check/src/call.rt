@@ -1,7 +1,7 @@
 //! Checks of task calls.
 
 ghost use Rattle.std.specs.Prelude.{◌≡◌, ◌&&◌, ◌≤◌, ◌<◌, [], length, map, Some, slice_get};
-ghost use Rattle.gs_idl.specs.Interface.{Op, Param};
+ghost use Rattle.gs_idl.specs.Interface.{Signature, Param};
 ghost use Rattle.gs_tree.specs.View.{term_of, passed_of, name_of, var_of};
 ghost use Rattle.gs_check.specs.Faults.{fault_if, place_kind, is_output, is_out_scalar, is_variable, is_variable_of, stands_out, repeats, leads_with_leaf, passed_place_fault, own_fault, passed_fault, all_passed_fault, find_op, call_fault};
 
@@ -97,8 +97,8 @@ fn place_fault(a: &Argument, vars: &[Var], dir: Dir, kind: Kind) -> Option<Fault
 }
 
 fn stands_out(idl: &Idl, op: u8, before: &[Argument], name: &[u8]) -> bool
-    requires { (o : Op) × (slice_get idl.now.ops op ≡ Some o) × (length before.now ≤ length o.params) × (length before.now < 256) }
-    ensures { (o : Op) → slice_get idl.now.ops op ≡ Some o → result ≡ stands_out o.params (map passed_of before.now) name.now }
+    requires { (o : Signature) × (slice_get idl.now.ops op ≡ Some o) × (length before.now ≤ length o.params) × (length before.now < 256) }
+    ensures { (o : Signature) → slice_get idl.now.ops op ≡ Some o → result ≡ stands_out o.params (map passed_of before.now) name.now }
 {
     for k in 0..before.len() {
         let (dir, _kind) = idl.param(op, k as u8);
@@ -111,8 +111,8 @@ fn stands_out(idl: &Idl, op: u8, before: &[Argument], name: &[u8]) -> bool
 
 // The argument is a variable that stands in an out place before.
 fn repeats(idl: &Idl, op: u8, before: &[Argument], e: &Expr) -> bool
-    requires { (o : Op) × (slice_get idl.now.ops op ≡ Some o) × (length before.now ≤ length o.params) × (length before.now < 256) }
-    ensures { (o : Op) → slice_get idl.now.ops op ≡ Some o → result ≡ repeats o.params (map passed_of before.now) (term_of e.now) }
+    requires { (o : Signature) × (slice_get idl.now.ops op ≡ Some o) × (length before.now ≤ length o.params) × (length before.now < 256) }
+    ensures { (o : Signature) → slice_get idl.now.ops op ≡ Some o → result ≡ repeats o.params (map passed_of before.now) (term_of e.now) }
 {
     match e {
         Expr::Num { line: _, v: _ } => false,
@@ -144,8 +144,8 @@ fn twice_fault(dir: Dir, again: bool, line: u32) -> Option<Fault>
 }
 
 fn passed_fault(idl: &Idl, op: u8, before: &[Argument], a: &Argument, vars: &[Var]) -> Option<Fault>
-    requires { (o : Op) × (slice_get idl.now.ops op ≡ Some o) × (length before.now < length o.params) × (length before.now < 256) }
-    ensures { (o : Op) (p : Param) → slice_get idl.now.ops op ≡ Some o → slice_get o.params (length before.now) ≡ Some p
+    requires { (o : Signature) × (slice_get idl.now.ops op ≡ Some o) × (length before.now < length o.params) × (length before.now < 256) }
+    ensures { (o : Signature) (p : Param) → slice_get idl.now.ops op ≡ Some o → slice_get o.params (length before.now) ≡ Some p
         → result ≡ passed_fault (map var_of vars.now) o.params (map passed_of before.now) p (passed_of a.now) }
 {
     let (dir, kind) = idl.param(op, before.len() as u8);
@@ -155,8 +155,8 @@ fn passed_fault(idl: &Idl, op: u8, before: &[Argument], a: &Argument, vars: &[Va
 }
 
 fn args_fault(idl: &Idl, op: u8, args: &[Argument], vars: &[Var]) -> Option<Fault>
-    requires { (o : Op) × (slice_get idl.now.ops op ≡ Some o) × (length args.now ≡ length o.params) × (length args.now < 256) }
-    ensures { (o : Op) → slice_get idl.now.ops op ≡ Some o
+    requires { (o : Signature) × (slice_get idl.now.ops op ≡ Some o) × (length args.now ≡ length o.params) × (length args.now < 256) }
+    ensures { (o : Signature) → slice_get idl.now.ops op ≡ Some o
         → result ≡ all_passed_fault (map var_of vars.now) o.params [] o.params (map passed_of args.now) }
 {
     for j in 0..args.len() {

@@ -1,7 +1,7 @@
 //! Checks of the declared names.
 
 ghost use Rattle.std.specs.Prelude.{◌≡◌, ◌<◌, ◌≤◌, ◌==◌, ◌||◌, None, MatchOption, slice_get, length, map, [], take, drop, is_some};
-ghost use Rattle.gs_idl.specs.Interface.{Op};
+ghost use Rattle.gs_idl.specs.Interface.{Signature};
 ghost use Rattle.gs_tree.specs.View.{name_of, var_of};
 ghost use Rattle.gs_check.specs.Variables.{declared_kind};
 ghost use Rattle.gs_check.specs.Faults.{fault_if, find_op, is_taken, vars_fault, ◌then◌};

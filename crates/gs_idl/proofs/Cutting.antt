@@ -7,7 +7,7 @@ use Rattle.std.proofs.lemmas.List.Sums.{count_by-le-length, count_by_more_yes, c
 use Rattle.std.specs.List.{prefix_len, count_by}
 use Rattle.std.specs.Option.{option_map}
 use Rattle.gs_idl.specs.Word.{is_letter, is_word_byte}
-use Rattle.gs_idl.specs.Lexicon.{Mark, mark, word, bad, is_feed, is_blank, Beginning, symbol_or_nothing, finish, nothing, begins, a_word, a_comment, a_line_comment, a_blank, a_feed, a_symbol, closes, close_at, front, Reads, worded, long, comment, open_comment, line_comment, blank, feed, signed, symbol, bad_byte, finished}
+use Rattle.gs_idl.specs.Lexicon.{IdlMark, mark, word, bad, is_feed, is_blank, Beginning, symbol_or_nothing, finish, nothing, begins, a_word, a_comment, a_line_comment, a_blank, a_feed, a_symbol, closes, close_at, front, Reads, worded, long, comment, open_comment, line_comment, blank, feed, signed, symbol, bad_byte, finished}
 use Rattle.gs_idl.specs.Token.{IsBeginning, further}
 use Rattle.gs_idl.specs.declared.token.Symbol.{Symbol}
 use Rattle.gs_idl.specs.declared.token.IdlKind.TheVariants.{LongName, OpenComment, BadByte}
@@ -30,7 +30,7 @@ word_fits bytes n h le = omega (arith, some_begins a_word bytes h, length-drop 1
 
 -- the bytes are a word, and then the rest
 abbrev pub CutsWord : (line : ℕ) (bytes text rest : List ℕ) → Type 0
-CutsWord line bytes text rest = ((ms : List Mark) → Reads line rest ms → Reads line bytes (mark line (word text) ∷ ms)) × (length rest < length bytes)
+CutsWord line bytes text rest = ((ms : List IdlMark) → Reads line rest ms → Reads line bytes (mark line (word text) ∷ ms)) × (length rest < length bytes)
 
 found_here : (line b n : ℕ) (rest : List ℕ) → begins b rest ≡ a_word → n ≡ prefix_len is_word_byte rest → suc n ≤ 64 → CutsWord line (b ∷ rest) (b ∷ take n rest) (drop n rest)
 found_here line b n rest h e short = (
@@ -121,7 +121,7 @@ two_begin (b ∷ c ∷ rest) h = omega arith
 
 -- the bytes are passed, up to the rest on the next line
 abbrev pub Passes : (line : ℕ) (bytes : List ℕ) (next : ℕ) (rest : List ℕ) → Type 0
-Passes line bytes next rest = ((ms : List Mark) → Reads next rest ms → Reads line bytes ms) × (length rest < length bytes) × (next + length rest ≤ line + length bytes)
+Passes line bytes next rest = ((ms : List IdlMark) → Reads next rest ms → Reads line bytes ms) × (length rest < length bytes) × (next + length rest ≤ line + length bytes)
 
 feeds_within : (n : ℕ) (xs : List ℕ) → count_by is_feed (take n xs) ≤ n
 feeds_within n xs = omega (arith, count_by-le-length is_feed (take n xs), length-take n xs)
@@ -197,10 +197,10 @@ feed_passed line b bytes rest is h =
     subst (λ (x : List ℕ). Passes line x (line + 1) rest) (sym is) here
 
 pub symbol_found : (line b : ℕ) (bytes rest : List ℕ) (s : Symbol) → bytes ≡ b ∷ rest → begins b rest ≡ a_symbol s
-    → ((ms : List Mark) → Reads line rest ms → Reads line bytes (mark line (symbol s) ∷ ms)) × (length rest < length bytes)
+    → ((ms : List IdlMark) → Reads line rest ms → Reads line bytes (mark line (symbol s) ∷ ms)) × (length rest < length bytes)
 symbol_found line b bytes rest s is h =
-    let here : ((ms : List Mark) → Reads line rest ms → Reads line (b ∷ rest) (mark line (symbol s) ∷ ms)) × (length rest < length (b ∷ rest)) = (λ ms q. signed line b rest s ms h q, omega arith) in
-    subst (λ (x : List ℕ). ((ms : List Mark) → Reads line rest ms → Reads line x (mark line (symbol s) ∷ ms)) × (length rest < length x)) (sym is) here
+    let here : ((ms : List IdlMark) → Reads line rest ms → Reads line (b ∷ rest) (mark line (symbol s) ∷ ms)) × (length rest < length (b ∷ rest)) = (λ ms q. signed line b rest s ms h q, omega arith) in
+    subst (λ (x : List ℕ). ((ms : List IdlMark) → Reads line rest ms → Reads line x (mark line (symbol s) ∷ ms)) × (length rest < length x)) (sym is) here
 
 pub bad_found : (line b : ℕ) (bytes rest : List ℕ) → bytes ≡ b ∷ rest → begins b rest ≡ nothing → Reads line bytes (mark line (bad BadByte) ∷ [])
 bad_found line b bytes rest is h = subst (λ (x : List ℕ). Reads line x (mark line (bad BadByte) ∷ [])) (sym is) (bad_byte line b rest h)

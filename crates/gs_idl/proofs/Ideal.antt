@@ -1,13 +1,13 @@
 -- How each state may go on to the end, and that it breaks no rule before its place.
 use Rattle.std.proofs.Common.{◌≡◌, ◌≢◌, ℕ, ◌+◌, ◌*◌, ◌<◌, ◌≤◌, Bool, true, false, List, [], ◌∷◌, ◌++◌, length, refl, arith, length-append, inl, inr}
 use lib.Chars.{codes}
-use Rattle.gs_idl.specs.Interface.{Param, Op, Interface}
-use Rattle.gs_idl.specs.Lexicon.{Sign, word, symbol, finish}
+use Rattle.gs_idl.specs.Interface.{Param, Signature, Interface}
+use Rattle.gs_idl.specs.Lexicon.{IdlSign, word, symbol, finish}
 use Rattle.gs_idl.specs.Grammar.{dir_word, kind_word, params_signs, Breaks}
 use Rattle.gs_idl.specs.declared.idl.Dir.{Dir}
 use Rattle.gs_idl.specs.declared.idl.Dir.TheVariants.{Input, Both}
-use Rattle.gs_idl.specs.declared.idl.Kind.{Kind}
-use Rattle.gs_idl.specs.declared.idl.Kind.TheVariants.{File}
+use Rattle.gs_idl.specs.declared.idl.ParamKind.{ParamKind}
+use Rattle.gs_idl.specs.declared.idl.ParamKind.TheVariants.{File}
 use Rattle.gs_idl.specs.declared.token.Symbol.TheVariants.{OpenParen, Comma}
 use Rattle.gs_idl.specs.declared.token.IdlKind.{IdlKind}
 use Rattle.gs_idl.specs.Machine.{State, start, at_title, at_brace, at_ops, at_name, at_paren, at_dir, at_kind, at_param, at_sep, at_semi, closed, ended, whole, param_by, op_by}
@@ -17,14 +17,14 @@ use Rattle.gs_idl.proofs.LastRules.{last_breaks, none_read, name_read, params_re
 use Rattle.gs_idl.proofs.SoFar.{base, begun, lead, so_far}
 use Rattle.gs_idl.proofs.Clean.{Clean}
 
-abbrev pub filled : Dir → Kind → Param
+abbrev pub filled : Dir → ParamKind → Param
 filled d k = param_by d k []
 
 abbrev pub fill : Param
 fill = filled Input File
 
 -- the operations of a text that goes on from a state
-abbrev pub ideal_ops : State → List Op
+abbrev pub ideal_ops : State → List Signature
 ideal_ops start = op_by [] (fill ∷ []) ∷ []
 ideal_ops at_title = op_by [] (fill ∷ []) ∷ []
 ideal_ops (at_brace x) = op_by [] (fill ∷ []) ∷ []
@@ -59,41 +59,41 @@ ideal_name (whole b x os) = x
 abbrev pub ideal : State → Interface
 ideal s = record { name = ideal_name s; ops = ideal_ops s }
 
-abbrev Reaches : State → List ℕ → List Op → Type 0
-Reaches s x os = (gs : List Sign) × (b : Bool) × Path s gs (whole b x os)
+abbrev Reaches : State → List ℕ → List Signature → Type 0
+Reaches s x os = (gs : List IdlSign) × (b : Bool) × Path s gs (whole b x os)
 
-by : (s t : State) (g : Sign) (x : List ℕ) (os : List Op) → Next s g t → Reaches t x os → Reaches s x os
+by : (s t : State) (g : IdlSign) (x : List ℕ) (os : List Signature) → Next s g t → Reaches t x os → Reaches s x os
 by s t g x os n r = (g ∷ r.0, r.1, goes s t (whole r.1 x os) g r.0 n r.2)
 
-from_closed : (x : List ℕ) (os : List Op) → Reaches (closed x os) x os
+from_closed : (x : List ℕ) (os : List Signature) → Reaches (closed x os) x os
 from_closed x os = (finish ∷ [], false, goes _ _ _ _ _ (to_whole x os) (here (whole false x os)))
 
-from_ops : (x : List ℕ) (os : List Op) → 1 ≤ length os → Reaches (at_ops x os) x os
+from_ops : (x : List ℕ) (os : List Signature) → 1 ≤ length os → Reaches (at_ops x os) x os
 from_ops x [] h = absurd (omega arith)
 from_ops x (o ∷ os) h = by _ _ _ x (o ∷ os) (to_closed x o os) (from_closed x (o ∷ os))
 
-from_semi : (x : List ℕ) (os : List Op) (f : List ℕ) (ps : List Param) → Reaches (at_semi x os f ps) x (os ++ op_by f ps ∷ [])
+from_semi : (x : List ℕ) (os : List Signature) (f : List ℕ) (ps : List Param) → Reaches (at_semi x os f ps) x (os ++ op_by f ps ∷ [])
 from_semi x os f ps = by _ _ _ x (os ++ op_by f ps ∷ []) (to_next x os f ps) (from_ops x (os ++ op_by f ps ∷ []) (omega (arith, length-append os (op_by f ps ∷ []))))
 
-from_sep : (x : List ℕ) (os : List Op) (f : List ℕ) (ps : List Param) → Reaches (at_sep x os f ps) x (os ++ op_by f ps ∷ [])
+from_sep : (x : List ℕ) (os : List Signature) (f : List ℕ) (ps : List Param) → Reaches (at_sep x os f ps) x (os ++ op_by f ps ∷ [])
 from_sep x os f ps = by _ _ _ x (os ++ op_by f ps ∷ []) (to_semi x os f ps) (from_semi x os f ps)
 
-from_param : (x : List ℕ) (os : List Op) (f : List ℕ) (ps : List Param) (d : Dir) (k : Kind) → Reaches (at_param x os f ps d k) x (os ++ op_by f (ps ++ filled d k ∷ []) ∷ [])
+from_param : (x : List ℕ) (os : List Signature) (f : List ℕ) (ps : List Param) (d : Dir) (k : ParamKind) → Reaches (at_param x os f ps d k) x (os ++ op_by f (ps ++ filled d k ∷ []) ∷ [])
 from_param x os f ps d k = by _ _ _ x _ (to_sep x os f ps d k []) (from_sep x os f (ps ++ filled d k ∷ []))
 
-from_kind : (x : List ℕ) (os : List Op) (f : List ℕ) (ps : List Param) (d : Dir) → Reaches (at_kind x os f ps d) x (os ++ op_by f (ps ++ filled d File ∷ []) ∷ [])
+from_kind : (x : List ℕ) (os : List Signature) (f : List ℕ) (ps : List Param) (d : Dir) → Reaches (at_kind x os f ps d) x (os ++ op_by f (ps ++ filled d File ∷ []) ∷ [])
 from_kind x os f ps d = by _ _ _ x _ (to_param x os f ps d File) (from_param x os f ps d File)
 
-from_dir : (x : List ℕ) (os : List Op) (f : List ℕ) (ps : List Param) → Reaches (at_dir x os f ps) x (os ++ op_by f (ps ++ fill ∷ []) ∷ [])
+from_dir : (x : List ℕ) (os : List Signature) (f : List ℕ) (ps : List Param) → Reaches (at_dir x os f ps) x (os ++ op_by f (ps ++ fill ∷ []) ∷ [])
 from_dir x os f ps = by _ _ _ x _ (to_kind x os f ps Input) (from_kind x os f ps Input)
 
-from_paren : (x : List ℕ) (os : List Op) (f : List ℕ) → Reaches (at_paren x os f) x (os ++ op_by f (fill ∷ []) ∷ [])
+from_paren : (x : List ℕ) (os : List Signature) (f : List ℕ) → Reaches (at_paren x os f) x (os ++ op_by f (fill ∷ []) ∷ [])
 from_paren x os f = by _ _ _ x _ (to_dir x os f) (from_dir x os f [])
 
-from_name : (x : List ℕ) (os : List Op) → Reaches (at_name x os) x (os ++ op_by [] (fill ∷ []) ∷ [])
+from_name : (x : List ℕ) (os : List Signature) → Reaches (at_name x os) x (os ++ op_by [] (fill ∷ []) ∷ [])
 from_name x os = by _ _ _ x _ (to_paren x os []) (from_paren x os [])
 
-from_begun : (x : List ℕ) (os : List Op) → Reaches (at_ops x os) x (os ++ op_by [] (fill ∷ []) ∷ [])
+from_begun : (x : List ℕ) (os : List Signature) → Reaches (at_ops x os) x (os ++ op_by [] (fill ∷ []) ∷ [])
 from_begun x os = by _ _ _ x _ (to_name x os) (from_name x os)
 
 from_brace : (x : List ℕ) → Reaches (at_brace x) x (op_by [] (fill ∷ []) ∷ [])
@@ -121,17 +121,17 @@ reaches (whole b x os) = ([], b, here (whole b x os))
 
 -- ---- how much was read
 
-params_size : (s : Sign) (ps : List Param) → length (params_signs s ps) ≡ 4 * length ps
+params_size : (s : IdlSign) (ps : List Param) → length (params_signs s ps) ≡ 4 * length ps
 params_size s [] = omega arith
 params_size s (p ∷ ps) = omega (arith, params_size (symbol Comma) ps)
 
-base_size : (x : List ℕ) (os : List Op) (rest : List Sign) → length (base x os ++ rest) ≡ 3 + size_of os + length rest
+base_size : (x : List ℕ) (os : List Signature) (rest : List IdlSign) → length (base x os ++ rest) ≡ 3 + size_of os + length rest
 base_size x os rest = omega (arith, length-append (base x os) rest)
 
 begun_size : (f : List ℕ) (ps : List Param) → length (begun f ps) ≡ 2 + 4 * length ps
 begun_size f ps = omega (arith, params_size (symbol OpenParen) ps)
 
-begun_more : (x : List ℕ) (os : List Op) (f : List ℕ) (ps : List Param) (rest : List Sign) → length (base x os ++ (begun f ps ++ rest)) ≡ 5 + size_of os + 4 * length ps + length rest
+begun_more : (x : List ℕ) (os : List Signature) (f : List ℕ) (ps : List Param) (rest : List IdlSign) → length (base x os ++ (begun f ps ++ rest)) ≡ 5 + size_of os + 4 * length ps + length rest
 begun_more x os f ps rest = omega (arith, base_size x os (begun f ps ++ rest), length-append (begun f ps) rest, begun_size f ps)
 
 -- how many signs lead to a state, at most

@@ -15,3 +15,5 @@ mod OneText
 pub mod Saying
 mod Naming
 mod ReadsBack
+mod Places
+mod Formed

@@ -3,9 +3,9 @@ use Rattle.std.proofs.Common.{◌≡◌, ℕ, ◌+◌, ◌<◌, Bool, true, fals
 use Rattle.std.specs.List.{AllPass, prefix_len, count_by}
 use Rattle.std.proofs.lemmas.List.Elements.{All-nil, All-cons}
 use Rattle.std.proofs.Math.Numerals.{one-add}
-use Rattle.gs_idl.specs.Interface.{Param, Op, Interface}
+use Rattle.gs_idl.specs.Interface.{Param, Signature, Interface}
 use Rattle.gs_idl.specs.Word.{is_letter, is_word_byte}
-use Rattle.gs_idl.specs.Lexicon.{Sign, word, symbol, bad, finish, Mark, is_blank, is_feed, Beginning, a_blank, a_feed, a_word, after_slash, symbol_or_nothing, begins, front, behind, Reads, finished, blank, feed, line_comment, comment, open_comment, worded, long, signed, bad_byte}
+use Rattle.gs_idl.specs.Lexicon.{IdlSign, word, symbol, bad, finish, IdlMark, is_blank, is_feed, Beginning, a_blank, a_feed, a_word, after_slash, symbol_or_nothing, begins, front, behind, Reads, finished, blank, feed, line_comment, comment, open_comment, worded, long, signed, bad_byte}
 use Rattle.gs_idl.specs.Grammar.{signs_of, params_signs, op_signs, ops_signs, interface_signs, IsText, plain, ended}
 use Rattle.gs_idl.specs.declared.token.Symbol.TheVariants.{CloseBrace, OpenParen, CloseParen, Comma, Semicolon}
 
@@ -22,41 +22,41 @@ abbrev pub ParamsNamed : List Param → Type 0
 ParamsNamed [] = Unit {0}
 ParamsNamed (p ∷ ps) = IsName p.name × ParamsNamed ps
 
-abbrev pub OpsNamed : List Op → Type 0
+abbrev pub OpsNamed : List Signature → Type 0
 OpsNamed [] = Unit {0}
 OpsNamed (o ∷ os) = IsName o.name × ParamsNamed o.params × OpsNamed os
 
 -- ---- the words of a list of signs are names
 
-abbrev pub Worded : List Sign → Type 0
+abbrev pub Worded : List IdlSign → Type 0
 Worded [] = Unit {0}
 Worded (word w ∷ gs) = IsName w × Worded gs
 Worded (symbol s ∷ gs) = Worded gs
 Worded (bad k ∷ gs) = Worded gs
 Worded (finish ∷ gs) = Worded gs
 
-back_of : (gs hs : List Sign) → Worded (gs ++ hs) → Worded hs
+back_of : (gs hs : List IdlSign) → Worded (gs ++ hs) → Worded hs
 back_of [] hs h = h
 back_of (word w ∷ gs) hs h = back_of gs hs h.1
 back_of (symbol s ∷ gs) hs h = back_of gs hs h
 back_of (bad k ∷ gs) hs h = back_of gs hs h
 back_of (finish ∷ gs) hs h = back_of gs hs h
 
-front_of : (gs hs : List Sign) → Worded (gs ++ hs) → Worded gs
+front_of : (gs hs : List IdlSign) → Worded (gs ++ hs) → Worded gs
 front_of [] hs h = tt
 front_of (word w ∷ gs) hs h = (h.0, front_of gs hs h.1)
 front_of (symbol s ∷ gs) hs h = front_of gs hs h
 front_of (bad k ∷ gs) hs h = front_of gs hs h
 front_of (finish ∷ gs) hs h = front_of gs hs h
 
-params_named : (s : Sign) (ps : List Param) → Worded (params_signs s ps) → ParamsNamed ps
+params_named : (s : IdlSign) (ps : List Param) → Worded (params_signs s ps) → ParamsNamed ps
 params_named s [] h = tt
 params_named (word w) (p ∷ ps) h = (h.1.1.1.0, params_named (symbol Comma) ps h.1.1.1.1)
 params_named (symbol s) (p ∷ ps) h = (h.1.1.0, params_named (symbol Comma) ps h.1.1.1)
 params_named (bad e) (p ∷ ps) h = (h.1.1.0, params_named (symbol Comma) ps h.1.1.1)
 params_named finish (p ∷ ps) h = (h.1.1.0, params_named (symbol Comma) ps h.1.1.1)
 
-ops_named : (os : List Op) → Worded (ops_signs os) → OpsNamed os
+ops_named : (os : List Signature) → Worded (ops_signs os) → OpsNamed os
 ops_named [] h = tt
 ops_named (o ∷ os) h =
     let op = front_of (op_signs o) (ops_signs os) h in
@@ -68,7 +68,7 @@ Named i = IsName i.name × OpsNamed i.ops
 interface_named : (i : Interface) → Worded (interface_signs i) → Named i
 interface_named i h = (h.1.0, ops_named i.ops (front_of (ops_signs i.ops) (symbol CloseBrace ∷ []) h.1.1))
 
-text_named : (gs : List Sign) (i : Interface) → IsText gs i → Worded gs → Named i
+text_named : (gs : List IdlSign) (i : Interface) → IsText gs i → Worded gs → Named i
 text_named gs i (plain ts i' f e) h = interface_named i' (front_of (interface_signs i') (finish ∷ []) (subst Worded e h))
 text_named gs i (ended ts i' f e) h = interface_named i' (front_of (interface_signs i') (symbol Semicolon ∷ finish ∷ []) (subst Worded e h))
 
@@ -115,7 +115,7 @@ pub front_passes : (p : ℕ → Bool) (xs : List ℕ) → AllPass p (front p xs)
 front_passes p [] = All-nil (λ y. p y ≡ true)
 front_passes p (x ∷ xs) = front_by p x xs (p x) refl (front_passes p xs)
 
-pub words_named : (line : ℕ) (bytes : List ℕ) (ms : List Mark) → Reads line bytes ms → Worded (signs_of ms)
+pub words_named : (line : ℕ) (bytes : List ℕ) (ms : List IdlMark) → Reads line bytes ms → Worded (signs_of ms)
 words_named line bytes ms (finished l) = tt
 words_named line bytes ms (blank l b rest ms' h r) = words_named l rest ms' r
 words_named line bytes ms (feed l b rest ms' h r) = words_named (l + 1) rest ms' r
@@ -128,5 +128,5 @@ words_named line bytes ms (long l b rest h le) = tt
 words_named line bytes ms (signed l b rest s ms' h r) = words_named l rest ms' r
 words_named line bytes ms (bad_byte l b rest h) = tt
 
-pub named : (line : ℕ) (bytes : List ℕ) (ms : List Mark) (i : Interface) → Reads line bytes ms → IsText (signs_of ms) i → Named i
+pub named : (line : ℕ) (bytes : List ℕ) (ms : List IdlMark) (i : Interface) → Reads line bytes ms → IsText (signs_of ms) i → Named i
 named line bytes ms i r t = text_named (signs_of ms) i t (words_named line bytes ms r)

@@ -2,38 +2,38 @@
 use Rattle.std.proofs.Common.{◌≡◌, ℕ, ◌+◌, ◌<◌, ◌≤◌, not, List, [], ◌∷◌, length, take, drop, Option, Some, None, refl, sym, ap, subst, ◌∙◌, arith, inl, inr, ◌⊎◌}
 use Rattle.std.specs.List.{count_by}
 use Rattle.gs_idl.specs.Word.{is_word_byte}
-use Rattle.gs_idl.specs.Lexicon.{word, symbol, bad, finish, Mark, mark, is_feed, Beginning, a_blank, a_feed, a_word, a_line_comment, a_comment, a_symbol, nothing, begins, front, behind, close_at, Reads, finished, blank, feed, line_comment, comment, open_comment, worded, long, signed, bad_byte}
+use Rattle.gs_idl.specs.Lexicon.{word, symbol, bad, finish, IdlMark, mark, is_feed, Beginning, a_blank, a_feed, a_word, a_line_comment, a_comment, a_symbol, nothing, begins, front, behind, close_at, Reads, finished, blank, feed, line_comment, comment, open_comment, worded, long, signed, bad_byte}
 use Rattle.gs_idl.specs.Grammar.{signs_of}
 use Rattle.gs_idl.specs.declared.token.IdlKind.TheVariants.{BadByte, OpenComment, LongName}
 use Rattle.gs_idl.proofs.Faults.{Closing, closing_more}
 
-abbrev CommentMarks : ℕ → List ℕ → List Mark → Option ℕ → Type 0
+abbrev CommentMarks : ℕ → List ℕ → List IdlMark → Option ℕ → Type 0
 CommentMarks line us ms None = ms ≡ mark line (bad OpenComment) ∷ []
 CommentMarks line us ms (Some n) = Reads (line + count_by is_feed (take n us)) (drop (n + 2) us) ms
 
-abbrev CommentOf : ℕ → List ℕ → List Mark → Type 0
+abbrev CommentOf : ℕ → List ℕ → List IdlMark → Type 0
 CommentOf line [] ms = ⊥
 CommentOf line (c ∷ us) ms = CommentMarks line us ms (close_at us)
 
-abbrev WordOf : ℕ → ℕ → List ℕ → List Mark → Type 0
+abbrev WordOf : ℕ → ℕ → List ℕ → List IdlMark → Type 0
 WordOf line b rest ms =
-    ((length (front is_word_byte rest) < 64) × (more : List Mark) × (ms ≡ mark line (word (b ∷ front is_word_byte rest)) ∷ more) × Reads line (behind is_word_byte rest) more)
+    ((length (front is_word_byte rest) < 64) × (more : List IdlMark) × (ms ≡ mark line (word (b ∷ front is_word_byte rest)) ∷ more) × Reads line (behind is_word_byte rest) more)
     ⊎ ((64 ≤ length (front is_word_byte rest)) × (ms ≡ mark line (bad LongName) ∷ []))
 
 -- what the marks are, by what begins first
-abbrev MarksBy : Beginning → ℕ → ℕ → List ℕ → List Mark → Type 0
+abbrev MarksBy : Beginning → ℕ → ℕ → List ℕ → List IdlMark → Type 0
 MarksBy a_blank line b rest ms = Reads line rest ms
 MarksBy a_feed line b rest ms = Reads (line + 1) rest ms
 MarksBy a_word line b rest ms = WordOf line b rest ms
 MarksBy a_line_comment line b rest ms = Reads line (behind (λ c. not (is_feed c)) rest) ms
 MarksBy a_comment line b rest ms = CommentOf line rest ms
-MarksBy (a_symbol s) line b rest ms = (more : List Mark) × (ms ≡ mark line (symbol s) ∷ more) × Reads line rest more
+MarksBy (a_symbol s) line b rest ms = (more : List IdlMark) × (ms ≡ mark line (symbol s) ∷ more) × Reads line rest more
 MarksBy nothing line b rest ms = ms ≡ mark line (bad BadByte) ∷ []
 
-by : (what : Beginning) (line b : ℕ) (rest : List ℕ) (ms : List Mark) → begins b rest ≡ what → MarksBy what line b rest ms → MarksBy (begins b rest) line b rest ms
+by : (what : Beginning) (line b : ℕ) (rest : List ℕ) (ms : List IdlMark) → begins b rest ≡ what → MarksBy what line b rest ms → MarksBy (begins b rest) line b rest ms
 by what line b rest ms e m = subst (λ (w : Beginning). MarksBy w line b rest ms) (sym e) m
 
-marks_by : (line b : ℕ) (rest : List ℕ) (ms : List Mark) → Reads line (b ∷ rest) ms → MarksBy (begins b rest) line b rest ms
+marks_by : (line b : ℕ) (rest : List ℕ) (ms : List IdlMark) → Reads line (b ∷ rest) ms → MarksBy (begins b rest) line b rest ms
 marks_by line b rest ms (blank l c us ns h r) = by a_blank line b rest ms h r
 marks_by line b rest ms (feed l c us ns h r) = by a_feed line b rest ms h r
 marks_by line b rest ms (line_comment l c us ns h r) = by a_line_comment line b rest ms h r
@@ -44,16 +44,16 @@ marks_by line b rest ms (long l c us h le) = by a_word line b rest ms h (inr (le
 marks_by line b rest ms (signed l c us s ns h r) = by (a_symbol s) line b rest ms h (ns, refl, r)
 marks_by line b rest ms (bad_byte l c us h) = by nothing line b rest ms h refl
 
-marks_at : (what : Beginning) (line b : ℕ) (rest : List ℕ) (ms : List Mark) → begins b rest ≡ what → Reads line (b ∷ rest) ms → MarksBy what line b rest ms
+marks_at : (what : Beginning) (line b : ℕ) (rest : List ℕ) (ms : List IdlMark) → begins b rest ≡ what → Reads line (b ∷ rest) ms → MarksBy what line b rest ms
 marks_at what line b rest ms e r = subst (λ (w : Beginning). MarksBy w line b rest ms) e (marks_by line b rest ms r)
 
-empty_marks : (line : ℕ) (ms : List Mark) → Reads line [] ms → ms ≡ mark line finish ∷ []
+empty_marks : (line : ℕ) (ms : List IdlMark) → Reads line [] ms → ms ≡ mark line finish ∷ []
 empty_marks line ms (finished l) = refl
 
-more_same : (m : Mark) (ms : List Mark) (ns : List Mark) (rest : List Mark) → ns ≡ m ∷ rest → ms ≡ rest → m ∷ ms ≡ ns
-more_same m ms ns rest e f = ap (λ (xs : List Mark). m ∷ xs) f ∙ sym e
+more_same : (m : IdlMark) (ms : List IdlMark) (ns : List IdlMark) (rest : List IdlMark) → ns ≡ m ∷ rest → ms ≡ rest → m ∷ ms ≡ ns
+more_same m ms ns rest e f = ap (λ (xs : List IdlMark). m ∷ xs) f ∙ sym e
 
-pub one_marks : (line : ℕ) (bytes : List ℕ) (ms ns : List Mark) → Reads line bytes ms → Reads line bytes ns → ms ≡ ns
+pub one_marks : (line : ℕ) (bytes : List ℕ) (ms ns : List IdlMark) → Reads line bytes ms → Reads line bytes ns → ms ≡ ns
 one_marks line bytes ms ns (finished l) q = sym (empty_marks line ns q)
 one_marks line bytes ms ns (blank l b rest ms' h r) q = one_marks l rest ms' ns r (marks_at a_blank l b rest ns h q)
 one_marks line bytes ms ns (feed l b rest ms' h r) q = one_marks (l + 1) rest ms' ns r (marks_at a_feed l b rest ns h q)
@@ -74,7 +74,7 @@ one_marks line bytes ms ns (signed l b rest s ms' h r) q =
 one_marks line bytes ms ns (bad_byte l b rest h) q = sym (marks_at nothing l b rest ns h q)
 
 -- the marks end with the only sign that is a last one
-pub marks_close : (line : ℕ) (bytes : List ℕ) (ms : List Mark) → Reads line bytes ms → Closing (signs_of ms)
+pub marks_close : (line : ℕ) (bytes : List ℕ) (ms : List IdlMark) → Reads line bytes ms → Closing (signs_of ms)
 marks_close line bytes ms (finished l) = tt
 marks_close line bytes ms (blank l b rest ms' h r) = marks_close l rest ms' r
 marks_close line bytes ms (feed l b rest ms' h r) = marks_close (l + 1) rest ms' r

@@ -7,17 +7,17 @@ use Rattle.gs_idl.specs.declared.token.Symbol.TheVariants.{OpenBrace, CloseBrace
 use Rattle.gs_idl.specs.declared.token.IdlKind.{IdlKind}
 use Rattle.gs_idl.specs.declared.token.IdlKind.TheVariants.{BadByte, OpenComment, LongName}
 
-pub data Sign : Type 0 where
-  word : List ℕ → Sign
-  symbol : Symbol → Sign
-  bad : IdlKind → Sign
-  finish : Sign
+pub data IdlSign : Type 0 where
+  word : List ℕ → IdlSign
+  symbol : Symbol → IdlSign
+  bad : IdlKind → IdlSign
+  finish : IdlSign
 
-pub record Mark : Type 0 where
+pub record IdlMark : Type 0 where
   pub line : ℕ
-  pub sign : Sign
+  pub sign : IdlSign
 
-abbrev pub mark : ℕ → Sign → Mark
+abbrev pub mark : ℕ → IdlSign → IdlMark
 mark line sign = record { line = line; sign = sign }
 
 -- a line feed
@@ -75,20 +75,20 @@ close_at (b ∷ rest) = if closes (b ∷ rest) then Some 0 else option_map suc (
 
 -- The bytes, of which the first stands on this line, are these marks. An identifier goes as far as its bytes do, a comment of two slashes
 -- to the end of its line, and any other to the first star and slash behind its first two bytes.
-pub data Reads : (line : ℕ) → List ℕ → List Mark → Type 0 where
+pub data Reads : (line : ℕ) → List ℕ → List IdlMark → Type 0 where
   finished : (line : ℕ) → Reads line [] (mark line finish ∷ [])
-  blank : (line b : ℕ) (rest : List ℕ) (ms : List Mark) → begins b rest ≡ a_blank → Reads line rest ms → Reads line (b ∷ rest) ms
-  feed : (line b : ℕ) (rest : List ℕ) (ms : List Mark) → begins b rest ≡ a_feed → Reads (line + 1) rest ms → Reads line (b ∷ rest) ms
-  line_comment : (line b : ℕ) (rest : List ℕ) (ms : List Mark) → begins b rest ≡ a_line_comment
+  blank : (line b : ℕ) (rest : List ℕ) (ms : List IdlMark) → begins b rest ≡ a_blank → Reads line rest ms → Reads line (b ∷ rest) ms
+  feed : (line b : ℕ) (rest : List ℕ) (ms : List IdlMark) → begins b rest ≡ a_feed → Reads (line + 1) rest ms → Reads line (b ∷ rest) ms
+  line_comment : (line b : ℕ) (rest : List ℕ) (ms : List IdlMark) → begins b rest ≡ a_line_comment
       → Reads line (behind (λ c. not (is_feed c)) rest) ms → Reads line (b ∷ rest) ms
-  comment : (line b c n : ℕ) (rest : List ℕ) (ms : List Mark) → begins b (c ∷ rest) ≡ a_comment → close_at rest ≡ Some n
+  comment : (line b c n : ℕ) (rest : List ℕ) (ms : List IdlMark) → begins b (c ∷ rest) ≡ a_comment → close_at rest ≡ Some n
       → Reads (line + count_by is_feed (take n rest)) (drop (n + 2) rest) ms → Reads line (b ∷ c ∷ rest) ms
   open_comment : (line b c : ℕ) (rest : List ℕ) → begins b (c ∷ rest) ≡ a_comment → close_at rest ≡ None
       → Reads line (b ∷ c ∷ rest) (mark line (bad OpenComment) ∷ [])
-  worded : (line b : ℕ) (rest : List ℕ) (ms : List Mark) → begins b rest ≡ a_word → length (front is_word_byte rest) < 64
+  worded : (line b : ℕ) (rest : List ℕ) (ms : List IdlMark) → begins b rest ≡ a_word → length (front is_word_byte rest) < 64
       → Reads line (behind is_word_byte rest) ms → Reads line (b ∷ rest) (mark line (word (b ∷ front is_word_byte rest)) ∷ ms)
   long : (line b : ℕ) (rest : List ℕ) → begins b rest ≡ a_word → 64 ≤ length (front is_word_byte rest)
       → Reads line (b ∷ rest) (mark line (bad LongName) ∷ [])
-  signed : (line b : ℕ) (rest : List ℕ) (s : Symbol) (ms : List Mark) → begins b rest ≡ a_symbol s → Reads line rest ms
+  signed : (line b : ℕ) (rest : List ℕ) (s : Symbol) (ms : List IdlMark) → begins b rest ≡ a_symbol s → Reads line rest ms
       → Reads line (b ∷ rest) (mark line (symbol s) ∷ ms)
   bad_byte : (line b : ℕ) (rest : List ℕ) → begins b rest ≡ nothing → Reads line (b ∷ rest) (mark line (bad BadByte) ∷ [])

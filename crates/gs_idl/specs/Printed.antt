@@ -1,7 +1,7 @@
 -- The printed form of an interface.
 use Rattle.std.specs.Prelude.{ℕ, List, [], ◌∷◌, ◌++◌}
 use lib.Chars.{codes}
-use Rattle.gs_idl.specs.Interface.{Param, Op, Interface}
+use Rattle.gs_idl.specs.Interface.{Param, Signature, Interface}
 use Rattle.gs_idl.specs.Grammar.{dir_word, kind_word}
 
 -- as `in File a`
@@ -18,10 +18,10 @@ params_text [] = []
 params_text (p ∷ ps) = param_text p ++ more_text ps
 
 -- one operation on a line, four blanks in
-abbrev pub op_text : Op → List ℕ
+abbrev pub op_text : Signature → List ℕ
 op_text o = codes "    void " ++ o.name ++ codes "(" ++ params_text o.params ++ codes ");\n"
 
-abbrev pub ops_text : List Op → List ℕ
+abbrev pub ops_text : List Signature → List ℕ
 ops_text [] = []
 ops_text (o ∷ os) = op_text o ++ ops_text os
 

@@ -1,7 +1,7 @@
 // Interfaces.
-ghost use Rattle.std.specs.Prelude.{◌≡◌, ◌≢◌, ◌<◌, ◌≤◌, ℕ, length, map, slice_get, Some, MatchOption};
-ghost use Rattle.gs_idl.specs.Interface.{Param, Op, IsSized, Has, Lacks};
-ghost use Rattle.gs_idl.specs.View.{op_of};
+ghost use Rattle.std.specs.Prelude.{◌≡◌, ◌+◌, ◌<◌, length, map, drop, slice_get, Some, IfSome, option_map};
+ghost use Rattle.gs_idl.specs.Interface.{IsWellFormed, op_place, name_at, params_at};
+ghost use Rattle.gs_idl.specs.View.{op_of, param_of};
 
 use std::marker::Model;
 
@@ -15,7 +15,7 @@ pub enum Dir {
 
 /// The kind of a parameter: `File`, `int` and `string`.
 #[derive(Clone, Copy, Debug, PartialEq, Eq)]
-pub enum Kind {
+pub enum ParamKind {
     File,
     Int,
     Str,
@@ -24,7 +24,7 @@ pub enum Kind {
 #[derive(Drop)]
 pub(crate) struct Parameter {
     pub dir: Dir,
-    pub kind: Kind,
+    pub kind: ParamKind,
     pub name: Vec<u8>,
 }
 
@@ -44,45 +44,47 @@ pub struct Idl {
 impl Model for Idl {
     ghost use Rattle.gs_idl.specs.Interface.{Interface};
     ghost use Rattle.gs_idl.specs.View.{interface_by};
-    ghost use Rattle.gs_idl.specs.Interface.{IsSized};
+    ghost use Rattle.gs_idl.specs.Interface.{IsWellFormed};
 
     ghost Value = { Interface };
 
     ghost view = { λ i. interface_by i.name i.ops };
 
-    ghost invariant = { λ i. IsSized (interface_by i.name i.ops) };
+    ghost invariant = { λ i. IsWellFormed (interface_by i.name i.ops) };
 }
 
-fn op_at(ops: &[Operation], i: usize) -> &Operation
-    requires { i < length ops.now }
-    ensures { slice_get (map op_of ops.now) i ≡ Some (op_of result.now) }
+/// The place of the first operation with this name.
+fn place_of(ops: &[Operation], name: &[u8]) -> Option<usize>
+    ensures first { result ≡ op_place (map op_of ops.now) name.now }
+    ensures within { IfSome result (λ i. i < length ops.now) }
 {
-    &ops[i]
-}
-
-fn size_of(op: &Operation) -> usize
-    ensures { result ≡ length (op_of op.now).params }
-{
-    op.params.len()
-}
-
-/// The place of the operation with this name.
-fn place_of(name: &[u8], ops: &[Operation]) -> Option<usize>
-    ensures { MatchOption result (Lacks name.now (map op_of ops.now)) (λ i. Has name.now i (map op_of ops.now)) }
-{
-    for i in 0..ops.len() {
-        if op_at(ops, i).name.as_slice() == name {
+    for (i, op) in ops.iter().enumerate() {
+        if op.name.as_slice() == name {
             return Some(i);
         }
     }
     None
 }
 
+fn name_of(ops: &[Operation], op: usize) -> &[u8]
+    requires { op < length ops.now }
+    ensures { result.now ≡ name_at (map op_of ops.now) op }
+{
+    ops[op].name.as_slice()
+}
+
+fn params_of(ops: &[Operation], op: usize) -> &[Parameter]
+    requires { op < length ops.now }
+    ensures { map param_of result.now ≡ params_at (map op_of ops.now) op }
+{
+    ops[op].params.as_slice()
+}
+
 impl Idl {
     /// The number of operations, 1 to 64.
     pub fn op_count(&self) -> u8
         ensures value { result ≡ length self.now.ops }
-        ensures sized { IsSized self.now }
+        ensures well_formed { IsWellFormed self.now }
     {
         self.ops.len() as u8
     }
@@ -90,33 +92,35 @@ impl Idl {
     /// The name of an operation, 1 to 64 bytes.
     pub fn op_name(&self, op: u8) -> &[u8]
         requires { op < length self.now.ops }
-        ensures { (o : Op) → slice_get self.now.ops op ≡ Some o → result.now ≡ o.name }
+        ensures { result.now ≡ name_at self.now.ops op }
     {
-        self.ops[op as usize].name.as_slice()
+        name_of(self.ops.as_slice(), op as usize)
     }
 
     /// The number of parameters of an operation, 1 to 16.
     pub fn param_count(&self, op: u8) -> u8
         requires { op < length self.now.ops }
-        ensures { (o : Op) → slice_get self.now.ops op ≡ Some o → result ≡ length o.params }
+        ensures { result ≡ length (params_at self.now.ops op) }
     {
-        size_of(op_at(self.ops.as_slice(), op as usize)) as u8
+        params_of(self.ops.as_slice(), op as usize).len() as u8
     }
 
     /// The direction and the kind of a parameter of an operation.
-    pub fn param(&self, op: u8, i: u8) -> (Dir, Kind)
-        requires { (o : Op) × (slice_get self.now.ops op ≡ Some o) × (i < length o.params) }
-        ensures { (o : Op) (p : Param) → slice_get self.now.ops op ≡ Some o → slice_get o.params i ≡ Some p → (result.0 ≡ p.dir) × (result.1 ≡ p.kind) }
+    pub fn param(&self, op: u8, i: u8) -> (Dir, ParamKind)
+        requires { i < length (params_at self.now.ops op) }
+        ensures dir { option_map (λ p. p.dir) (slice_get (params_at self.now.ops op) i) ≡ Some result.0 }
+        ensures kind { option_map (λ p. p.kind) (slice_get (params_at self.now.ops op) i) ≡ Some result.1 }
     {
-        let param = &self.ops[op as usize].params[i as usize];
+        let param = &params_of(self.ops.as_slice(), op as usize)[i as usize];
         (param.dir, param.kind)
     }
 
-    /// The operation with this name; `None` exactly where none has it.
+    /// The first operation with this name; `None` exactly where none has it.
     pub fn find(&self, name: &[u8]) -> Option<u8>
-        ensures { MatchOption result (Lacks name.now self.now.ops) (λ i. Has name.now i self.now.ops) }
+        ensures first { result ≡ op_place self.now.ops name.now }
+        ensures within { IfSome result (λ i. i < length self.now.ops) }
     {
-        match place_of(name, self.ops.as_slice()) {
+        match place_of(self.ops.as_slice(), name) {
             Some(i) => Some(i as u8),
             None => None,
         }

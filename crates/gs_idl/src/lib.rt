@@ -11,7 +11,7 @@ mod reader;
 mod tests;
 mod token;
 
-pub use idl::{Dir, Idl, Kind};
+pub use idl::{Dir, Idl, ParamKind};
 pub use memory::NoMemory;
 pub use printer::print;
 pub use reader::{IdlErr, read};

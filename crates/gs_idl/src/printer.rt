@@ -5,7 +5,7 @@ ghost use Rattle.gs_idl.specs.Printed.{param_text, more_text, params_text, op_te
 ghost use Rattle.gs_idl.specs.View.{param_of, op_of};
 
 use crate::idl::{Operation, Parameter};
-use crate::{Dir, Idl, Kind, NoMemory};
+use crate::{Dir, Idl, ParamKind, NoMemory};
 use std::alloc::Global;
 
 fn put(out: &mut Vec<u8>, text: &[u8]) -> Result<(), NoMemory>
@@ -25,13 +25,13 @@ fn dir_word(dir: Dir) -> &'static [u8]
     }
 }
 
-fn kind_word(kind: Kind) -> &'static [u8]
+fn kind_word(kind: ParamKind) -> &'static [u8]
     ensures { result.now ≡ kind_word kind }
 {
     match kind {
-        Kind::File => b"File",
-        Kind::Int => b"int",
-        Kind::Str => b"string",
+        ParamKind::File => b"File",
+        ParamKind::Int => b"int",
+        ParamKind::Str => b"string",
     }
 }
 

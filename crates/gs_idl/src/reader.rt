@@ -1,6 +1,6 @@
 // The reader of interface texts.
 ghost use Rattle.std.specs.Prelude.{◌≡◌, ◌+◌, ◌<◌, ◌≤◌, ◌↔◌, ℕ, List, [], ◌∷◌, ◌++◌, length, map, OnOk, IfOk, IfErr, Ok, MatchResult, IsTrue, IsFalse, false, if◌then◌else◌};
-ghost use Rattle.gs_idl.specs.Interface.{Param, Op, IsOpSized, IsOpsSized};
+ghost use Rattle.gs_idl.specs.Interface.{Param, Signature, IsOpSized, IsOpsSized};
 ghost use Rattle.gs_idl.specs.Lexicon.{word, symbol, finish};
 ghost use Rattle.gs_idl.specs.Grammar.{refused, Says};
 ghost use Rattle.gs_idl.specs.Machine.{name_rule, run, start, at_ops, at_name, at_paren, at_dir, at_kind, at_param, at_sep, at_semi, closed, param_by, dir_of, kind_of, is_clash, has_op, has_param};
@@ -8,9 +8,9 @@ ghost use Rattle.gs_idl.specs.Token.{sign_of, mark_of};
 ghost use Rattle.gs_idl.specs.View.{param_of, op_of};
 ghost use Rattle.gs_idl.specs.Reading.{signs, sign_at, IsStanding, IsPassed, IsNamed, IsLast, Moves, Ends, Reads, line_at, Refuses};
 
-use crate::idl::{Dir, Idl, Kind, Operation, Parameter};
+use crate::idl::{Dir, Idl, ParamKind, Operation, Parameter};
 use crate::keyword::is_keyword;
-use crate::token::{IdlKind, Sign, Symbol, Token, tokens};
+use crate::token::{IdlKind, IdlSign, Symbol, Token, tokens};
 use std::alloc::{AllocError, AllocFailed, Global};
 
 /// Why reading stopped at the next sign.
@@ -43,30 +43,30 @@ impl<T: Drop> From<AllocFailed<T>> for Stop {
 }
 
 /// The sign at a place. Behind the last one stands nothing that may be read.
-fn sign_at<'a>(tokens: &[Token<'a>], at: usize) -> Sign<'a>
+fn sign_at<'a>(tokens: &[Token<'a>], at: usize) -> IdlSign<'a>
     ensures value { sign_of result ≡ sign_at (signs tokens.now) at }
     ensures within { IsStanding result → at < length tokens.now }
 {
     match tokens.get(at) {
         Some(token) => token.sign,
-        None => Sign::Bad {
+        None => IdlSign::Bad {
             kind: IdlKind::Unexpected,
         },
     }
 }
 
-fn refused(sign: &Sign) -> Stop
+fn refused(sign: &IdlSign) -> Stop
     ensures { result ≡ Stop.Fault (refused (sign_of sign.now)) }
 {
     match sign {
-        Sign::Bad { kind } => Stop::Fault { kind: *kind },
-        Sign::Word { text: _ } => Stop::Fault {
+        IdlSign::Bad { kind } => Stop::Fault { kind: *kind },
+        IdlSign::Word { text: _ } => Stop::Fault {
             kind: IdlKind::Unexpected,
         },
-        Sign::Symbol { symbol: _ } => Stop::Fault {
+        IdlSign::Symbol { symbol: _ } => Stop::Fault {
             kind: IdlKind::Unexpected,
         },
-        Sign::End => Stop::Fault {
+        IdlSign::End => Stop::Fault {
             kind: IdlKind::Unexpected,
         },
     }
@@ -79,7 +79,7 @@ fn pass_symbol(tokens: &[Token], at: &mut usize, wanted: Symbol) -> Result<(), S
 {
     let sign = sign_at(tokens, *at);
     match sign {
-        Sign::Symbol { symbol } if symbol == wanted => {
+        IdlSign::Symbol { symbol } if symbol == wanted => {
             *at += 1;
             Ok(())
         }
@@ -94,7 +94,7 @@ fn pass_word(tokens: &[Token], at: &mut usize, wanted: &[u8]) -> Result<(), Stop
 {
     let sign = sign_at(tokens, *at);
     match sign {
-        Sign::Word { text } if text == wanted => {
+        IdlSign::Word { text } if text == wanted => {
             *at += 1;
             Ok(())
         }
@@ -109,7 +109,7 @@ fn word_at<'a>(tokens: &[Token<'a>], at: usize) -> Result<&'a [u8], Stop>
 {
     let sign = sign_at(tokens, at);
     match sign {
-        Sign::Word { text } => Ok(text),
+        IdlSign::Word { text } => Ok(text),
         _ => Err(refused(&sign)),
     }
 }
@@ -156,25 +156,25 @@ fn dir_of(word: &[u8]) -> Option<Dir>
     }
 }
 
-fn kind_of(word: &[u8]) -> Option<Kind>
+fn kind_of(word: &[u8]) -> Option<ParamKind>
     ensures { result ≡ kind_of word.now }
 {
     if word == b"File".as_slice() {
-        return Some(Kind::File);
+        return Some(ParamKind::File);
     }
     if word == b"int".as_slice() {
-        return Some(Kind::Int);
+        return Some(ParamKind::Int);
     }
     if word == b"string".as_slice() {
-        return Some(Kind::Str);
+        return Some(ParamKind::Str);
     }
     None
 }
 
-fn is_clash(dir: Dir, kind: Kind) -> bool
+fn is_clash(dir: Dir, kind: ParamKind) -> bool
     ensures { result ≡ is_clash dir kind }
 {
-    dir == Dir::Both && kind != Kind::File
+    dir == Dir::Both && kind != ParamKind::File
 }
 
 fn has_op(name: &[u8], ops: &[Operation]) -> bool
@@ -201,7 +201,7 @@ fn has_param(name: &[u8], params: &[Parameter]) -> bool
 
 /// The direction of the parameter behind so many.
 fn pass_dir(tokens: &[Token], at: &mut usize, count: usize) -> Result<Dir, Stop>
-    ensures moves { (x : List ℕ) (os : List Op) (f : List ℕ) (ps : List Param) → length ps ≡ count → Moves (signs tokens.now) at.old (at_dir x os f ps) at.new (λ d. at_kind x os f ps d) result }
+    ensures moves { (x : List ℕ) (os : List Signature) (f : List ℕ) (ps : List Param) → length ps ≡ count → Moves (signs tokens.now) at.old (at_dir x os f ps) at.new (λ d. at_kind x os f ps d) result }
     ensures few { OnOk result (count < 16) }
     ensures within { OnOk result ((at.old < length tokens.now) × (at.new ≡ at.old + 1)) }
 {
@@ -224,8 +224,8 @@ fn pass_dir(tokens: &[Token], at: &mut usize, count: usize) -> Result<Dir, Stop>
 }
 
 /// The kind of a parameter of this direction.
-fn pass_kind(tokens: &[Token], at: &mut usize, dir: Dir) -> Result<Kind, Stop>
-    ensures moves { (x : List ℕ) (os : List Op) (f : List ℕ) (ps : List Param) → Moves (signs tokens.now) at.old (at_kind x os f ps dir) at.new (λ k. at_param x os f ps dir k) result }
+fn pass_kind(tokens: &[Token], at: &mut usize, dir: Dir) -> Result<ParamKind, Stop>
+    ensures moves { (x : List ℕ) (os : List Signature) (f : List ℕ) (ps : List Param) → Moves (signs tokens.now) at.old (at_kind x os f ps dir) at.new (λ k. at_param x os f ps dir k) result }
     ensures within { OnOk result ((at.old < length tokens.now) × (at.new ≡ at.old + 1)) }
 {
     let word = match word_at(tokens, *at) {
@@ -253,7 +253,7 @@ fn pass_param_name(
     at: &mut usize,
     params: &[Parameter],
 ) -> Result<Vec<u8>, Stop>
-    ensures moves { (x : List ℕ) (os : List Op) (f : List ℕ) (d : Dir) (k : Kind) → Moves (signs tokens.now) at.old (at_param x os f (map param_of params.now) d k) at.new (λ v. at_sep x os f (map param_of params.now ++ param_by d k v.items ∷ [])) result }
+    ensures moves { (x : List ℕ) (os : List Signature) (f : List ℕ) (d : Dir) (k : ParamKind) → Moves (signs tokens.now) at.old (at_param x os f (map param_of params.now) d k) at.new (λ v. at_sep x os f (map param_of params.now ++ param_by d k v.items ∷ [])) result }
     ensures within { OnOk result ((at.old < length tokens.now) × (at.new ≡ at.old + 1)) }
 {
     let word = match word_at(tokens, *at) {
@@ -280,7 +280,7 @@ fn read_param(
     at: &mut usize,
     params: &[Parameter],
 ) -> Result<Parameter, Stop>
-    ensures moves { (x : List ℕ) (os : List Op) (f : List ℕ) → Moves (signs tokens.now) at.old (at_dir x os f (map param_of params.now)) at.new (λ p. at_sep x os f (map param_of params.now ++ param_of p ∷ [])) result }
+    ensures moves { (x : List ℕ) (os : List Signature) (f : List ℕ) → Moves (signs tokens.now) at.old (at_dir x os f (map param_of params.now)) at.new (λ p. at_sep x os f (map param_of params.now ++ param_of p ∷ [])) result }
     ensures few { OnOk result (length params.now < 16) }
     ensures within { OnOk result ((at.old < at.new) × (at.new ≤ length tokens.now)) }
 {
@@ -300,7 +300,7 @@ fn read_param(
 
 /// Whether another parameter follows, or else the list is ended.
 fn pass_more(tokens: &[Token], at: &mut usize) -> Result<bool, Stop>
-    ensures moves { (x : List ℕ) (os : List Op) (f : List ℕ) (ps : List Param) → Moves (signs tokens.now) at.old (at_sep x os f ps) at.new (λ more. if more then at_dir x os f ps else at_semi x os f ps) result }
+    ensures moves { (x : List ℕ) (os : List Signature) (f : List ℕ) (ps : List Param) → Moves (signs tokens.now) at.old (at_sep x os f ps) at.new (λ more. if more then at_dir x os f ps else at_semi x os f ps) result }
     ensures within { OnOk result ((at.old < length tokens.now) × (at.new ≡ at.old + 1)) }
 {
     match pass_symbol(tokens, at, Symbol::Comma) {
@@ -319,7 +319,7 @@ fn add_param(
     at: &mut usize,
     params: &mut Vec<Parameter>,
 ) -> Result<bool, Stop>
-    ensures moves { (x : List ℕ) (os : List Op) (f : List ℕ) → Moves (signs tokens.now) at.old (at_dir x os f (map param_of params.old.items)) at.new (λ more. if more then at_dir x os f (map param_of params.new.items) else at_semi x os f (map param_of params.new.items)) result }
+    ensures moves { (x : List ℕ) (os : List Signature) (f : List ℕ) → Moves (signs tokens.now) at.old (at_dir x os f (map param_of params.old.items)) at.new (λ more. if more then at_dir x os f (map param_of params.new.items) else at_semi x os f (map param_of params.new.items)) result }
     ensures within { OnOk result ((at.old < at.new) × (at.new ≤ length tokens.now)) }
     ensures size { OnOk result ((1 ≤ length params.new.items) × (length params.new.items ≤ 16)) }
 {
@@ -336,7 +336,7 @@ fn add_param(
 
 fn read_params(alloc: Global, tokens: &[Token], at: &mut usize) -> Result<Vec<Parameter>, Stop>
     requires { at.old ≤ length tokens.now }
-    ensures moves { (x : List ℕ) (os : List Op) (f : List ℕ) → Moves (signs tokens.now) at.old (at_dir x os f []) at.new (λ v. at_semi x os f (map param_of v.items)) result }
+    ensures moves { (x : List ℕ) (os : List Signature) (f : List ℕ) → Moves (signs tokens.now) at.old (at_dir x os f []) at.new (λ v. at_semi x os f (map param_of v.items)) result }
     ensures within { OnOk result ((at.old < at.new) × (at.new ≤ length tokens.now)) }
     ensures size { IfOk result (λ v. (1 ≤ length v.items) × (length v.items ≤ 16)) }
 {
@@ -423,7 +423,7 @@ fn read_op(
 
 /// Whether another operation follows, or else the interface is closed, which it can't be without an operation.
 fn pass_void(tokens: &[Token], at: &mut usize, is_first: bool) -> Result<bool, Stop>
-    ensures moves { (x : List ℕ) (os : List Op) → IsTrue is_first ↔ (os ≡ []) → Moves (signs tokens.now) at.old (at_ops x os) at.new (λ more. if more then at_name x os else closed x os) result }
+    ensures moves { (x : List ℕ) (os : List Signature) → IsTrue is_first ↔ (os ≡ []) → Moves (signs tokens.now) at.old (at_ops x os) at.new (λ more. if more then at_name x os else closed x os) result }
     ensures within { OnOk result ((at.old < length tokens.now) × (at.new ≡ at.old + 1)) }
     ensures some { result ≡ Ok false → IsFalse is_first }
 {
@@ -490,14 +490,14 @@ fn pass_last(tokens: &[Token], at: usize) -> Result<(), Stop>
 {
     let sign = sign_at(tokens, at);
     match sign {
-        Sign::End => Ok(()),
+        IdlSign::End => Ok(()),
         _ => Err(refused(&sign)),
     }
 }
 
 /// The end, behind a semicolon or not.
 fn pass_end(tokens: &[Token], at: &mut usize) -> Result<(), Stop>
-    ensures { (x : List ℕ) (os : List Op) → Ends (signs tokens.now) at.old (closed x os) at.new (record { name = x; ops = os }) result }
+    ensures { (x : List ℕ) (os : List Signature) → Ends (signs tokens.now) at.old (closed x os) at.new (record { name = x; ops = os }) result }
 {
     match pass_symbol(tokens, at, Symbol::Semicolon) {
         Ok(()) => pass_last(tokens, *at),

@@ -43,7 +43,7 @@ pub(crate) enum Symbol {
 
 /// A word, a symbol, the end, or what is none of these.
 #[derive(Clone, Copy)]
-pub(crate) enum Sign<'a> {
+pub(crate) enum IdlSign<'a> {
     Word { text: &'a [u8] },
     Symbol { symbol: Symbol },
     Bad { kind: IdlKind },
@@ -53,7 +53,7 @@ pub(crate) enum Sign<'a> {
 /// A sign and its line, from 1.
 #[derive(Clone, Copy)]
 pub(crate) struct Token<'a> {
-    pub sign: Sign<'a>,
+    pub sign: IdlSign<'a>,
     pub line: u32,
 }
 
@@ -221,14 +221,14 @@ fn word<'a>(line: u32, bytes: &'a [u8]) -> Piece<'a>
 {
     let length = 1 + word_length(tail(bytes, 1));
     if length > 64 {
-        let sign = Sign::Bad {
+        let sign = IdlSign::Bad {
             kind: IdlKind::LongName,
         };
         return Piece::Last {
             token: Token { sign, line },
         };
     }
-    let sign = Sign::Word {
+    let sign = IdlSign::Word {
         text: head(bytes, length),
     };
     Piece::Found {
@@ -249,7 +249,7 @@ fn comment<'a>(line: u32, bytes: &'a [u8]) -> Piece<'a>
             rest: tail(bytes, n + 4),
         },
         None => {
-            let sign = Sign::Bad {
+            let sign = IdlSign::Bad {
                 kind: IdlKind::OpenComment,
             };
             Piece::Last {
@@ -266,7 +266,7 @@ fn first_piece<'a>(line: u32, bytes: &'a [u8]) -> Piece<'a>
     ensures { Cuts line bytes.now result }
 {
     if bytes.is_empty() {
-        let sign = Sign::End;
+        let sign = IdlSign::End;
         return Piece::Last {
             token: Token { sign, line },
         };
@@ -285,14 +285,14 @@ fn first_piece<'a>(line: u32, bytes: &'a [u8]) -> Piece<'a>
         },
         Beginning::Comment => comment(line, bytes),
         Beginning::Symbol { symbol } => {
-            let sign = Sign::Symbol { symbol };
+            let sign = IdlSign::Symbol { symbol };
             Piece::Found {
                 token: Token { sign, line },
                 rest,
             }
         }
         Beginning::Nothing => {
-            let sign = Sign::Bad {
+            let sign = IdlSign::Bad {
                 kind: IdlKind::BadByte,
             };
             Piece::Last {

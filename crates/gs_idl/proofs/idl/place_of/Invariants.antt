@@ -1,7 +1,8 @@
-use Rattle.std.proofs.Common.{◌≡◌, ◌<◌, ℕ, map, slice_get, Some}
-use Rattle.gs_idl.specs.Interface.{Op}
+use Rattle.std.proofs.Common.{◌≡◌, map, drop}
+use Rattle.gs_idl.specs.Interface.{op_place}
+use Rattle.gs_idl.specs.Token.{further}
 use Rattle.gs_idl.specs.View.{op_of}
 use Rattle.gs_idl.proofs.idl.place_of.Given as goal
 
 abbrev pub invariant-loop-i : goal.invariant-loop-i
-invariant-loop-i l = (j : ℕ) (o : Op) → j < l.i → slice_get (map op_of l.ops) j ≡ Some o → o.name ≡ l.name → ⊥
+invariant-loop-i l = op_place (map op_of l.ops) l.name ≡ further l.i (op_place (map op_of (drop l.i l.ops)) l.name)
