@@ -7,7 +7,7 @@ use Rattle.gs_tree.specs.declared.tree.VarKind.{VarKind}
 use Rattle.gs_tree.specs.declared.tree.Expr.{Expr}
 use Rattle.gs_tree.specs.Program.{Term}
 use Rattle.gs_tree.specs.View.{term_of}
-use Rattle.gs_check.specs.Variables.{term_kind, is_wrong}
+use Rattle.gs_tree.specs.Variables.{term_kind, is_wrong}
 use Rattle.gs_check.specs.Faults.{Vars, is_format}
 
 pub fit_more : (vars : Vars) (k : VarKind) (kinds : Option (List VarKind)) (t : Term) (ts : List Term) → is_wrong k (term_kind vars t) ≡ false →

@@ -2,7 +2,7 @@
 use Rattle.std.specs.Prelude.{◌≡◌, ℕ, ◌≤◌, List, ◌∷◌, length, drop, None, option_map}
 use Rattle.gs_check.specs.declared.format.Conversion.{Conversion}
 use Rattle.gs_check.specs.declared.format.Conversion.TheVariants.{Plain, Percent, Value, Bad}
-use Rattle.gs_check.specs.Formats.{format_kinds}
+use Rattle.gs_tree.specs.Formats.{format_kinds}
 
 -- that stands first in the rest of a format
 abbrev pub IsConversion : List ℕ → Conversion → Type 0

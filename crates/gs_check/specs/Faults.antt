@@ -14,8 +14,8 @@ use Rattle.gs_idl.specs.declared.idl.Dir.{Dir}
 use Rattle.gs_idl.specs.declared.idl.Dir.TheVariants.{Input, Both, Output}
 use Rattle.gs_idl.specs.declared.idl.Kind as idl
 use Rattle.gs_idl.specs.declared.idl.Kind.TheVariants as of
-use Rattle.gs_check.specs.Formats.{format_kinds}
-use Rattle.gs_check.specs.Variables.{declared_kind, term_kind, is_wrong, first_line, begins_with_leaf}
+use Rattle.gs_tree.specs.Formats.{format_kinds}
+use Rattle.gs_tree.specs.Variables.{declared_kind, term_kind, is_wrong, first_line, begins_with_leaf}
 
 abbrev pub Vars : Type 0
 Vars = List (Name × VarKind)

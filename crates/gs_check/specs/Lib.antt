@@ -1,5 +1,3 @@
-pub mod Formats
-pub mod Variables
 pub mod Faults
 pub mod Conversions
 pub mod Passing

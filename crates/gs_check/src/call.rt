@@ -10,7 +10,7 @@ use crate::kind::{CheckKind, Fault};
 use crate::names::place_of;
 use crate::vars::{begins_with_leaf, expr_kind, first_line, is_wrong};
 use gs_idl::{Dir, Idl, Kind};
-use gs_tree::tree::{Argument, Expr, Ident, Var, VarKind};
+use gs_tree::{Argument, Expr, Ident, Var, VarKind};
 
 // A file's name is passed as a string.
 fn place_kind(kind: Kind) -> VarKind

@@ -5,7 +5,7 @@ ghost use Rattle.gs_tree.specs.View.{program_of};
 ghost use Rattle.gs_check.specs.Faults.{fault_of};
 
 use gs_idl::Idl;
-use gs_tree::tree::Tree;
+use gs_tree::Tree;
 
 /// A program and the operations that it may call. It passed the checks.
 #[derive(Drop)]

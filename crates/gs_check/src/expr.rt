@@ -3,12 +3,12 @@
 ghost use Rattle.std.specs.Prelude.{◌≡◌, map};
 ghost use Rattle.std.specs.Option.{option_map};
 ghost use Rattle.gs_tree.specs.View.{name_of, term_of, setting_of, var_of};
-ghost use Rattle.gs_check.specs.Variables.{is_wrong, term_kind};
+ghost use Rattle.gs_tree.specs.Variables.{is_wrong, term_kind};
 ghost use Rattle.gs_check.specs.Faults.{fault_if, name_fault, inner_fault, wrong_fault, term_fault, maybe_term_fault, setting_fault, maybe_setting_fault};
 
 use crate::kind::{CheckKind, Fault};
 use crate::vars::{expr_kind, find_kind, first_line, is_wrong};
-use gs_tree::tree::{Assign, Expr, Ident, Var, VarKind};
+use gs_tree::{Assign, Expr, Ident, Var, VarKind};
 
 pub(crate) fn fault_if(holds: bool, line: u32, kind: CheckKind) -> Option<Fault>
     ensures { result ≡ fault_if holds line kind }

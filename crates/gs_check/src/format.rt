@@ -2,14 +2,14 @@
 
 ghost use Rattle.std.specs.Prelude.{◌≡◌, ◌<◌, length, map};
 ghost use Rattle.gs_tree.specs.View.{term_of, formatted_of, var_of};
-ghost use Rattle.gs_check.specs.Formats.{format_kinds};
+ghost use Rattle.gs_tree.specs.Formats.{format_kinds};
 ghost use Rattle.gs_check.specs.Conversions.{IsConversion};
 ghost use Rattle.gs_check.specs.Faults.{is_format, args_fault, format_fault};
 
 use crate::expr::{fault_if, inner_fault};
 use crate::kind::{CheckKind, Fault};
 use crate::vars::{expr_kind, is_wrong};
-use gs_tree::tree::{Expr, Format, Var, VarKind};
+use gs_tree::{Expr, Format, Var, VarKind};
 
 // What stands first in the rest of a format.
 #[derive(Clone, Copy)]

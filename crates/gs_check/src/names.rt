@@ -3,14 +3,14 @@
 ghost use Rattle.std.specs.Prelude.{◌≡◌, ◌<◌, ◌≤◌, ◌==◌, ◌||◌, None, MatchOption, slice_get, length, map, [], take, drop, is_some};
 ghost use Rattle.gs_idl.specs.Interface.{Signature};
 ghost use Rattle.gs_tree.specs.View.{name_of, var_of};
-ghost use Rattle.gs_check.specs.Variables.{declared_kind};
+ghost use Rattle.gs_tree.specs.Variables.{declared_kind};
 ghost use Rattle.gs_check.specs.Faults.{fault_if, find_op, is_taken, vars_fault, ◌then◌};
 
 use crate::expr::fault_if;
 use crate::kind::{CheckKind, Fault};
 use crate::vars::find_kind;
 use gs_idl::Idl;
-use gs_tree::tree::Var;
+use gs_tree::Var;
 
 /// The most variables of a program.
 const MAX_VARS: usize = 128;

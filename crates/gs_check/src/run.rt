@@ -11,7 +11,7 @@ use crate::kind::{CheckKind, Fault};
 use crate::names::vars_fault;
 use crate::stmt::{body_fault, initial_fault};
 use gs_idl::Idl;
-use gs_tree::tree::Tree;
+use gs_tree::Tree;
 use std::alloc::{AllocError, Global};
 
 /// What `check` answers in place of a checked program: the first fault, or want of memory.

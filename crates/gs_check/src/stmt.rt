@@ -10,7 +10,7 @@ use crate::expr::{expr_fault, maybe_expr_fault, maybe_setting_fault, name_fault,
 use crate::format::format_fault;
 use crate::kind::Fault;
 use gs_idl::Idl;
-use gs_tree::tree::{Assign, Expr, Ident, Stmt, Var, VarKind};
+use gs_tree::{Assign, Expr, Ident, Stmt, Var, VarKind};
 
 /// The initial assignments.
 pub(crate) fn initial_fault(first: &[Assign], vars: &[Var]) -> Option<Fault>

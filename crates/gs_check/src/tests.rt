@@ -1,8 +1,9 @@
 // Programs that pass, and programs that are refused at their first fault.
 use crate::{CheckErr, CheckKind, check};
 use gs_idl::read;
-use gs_tree::NoMemory;
-use gs_tree::tree::{Argument, Assign, Expr, Format, Ident, Mode, Op, Stmt, Tree, Var, VarKind};
+use gs_tree::{
+    Argument, Assign, Expr, Format, Ident, Mode, NoMemory, Op, Stmt, Tree, Var, VarKind,
+};
 use std::alloc::{AllocError, Global};
 use std::test::Fail;
 

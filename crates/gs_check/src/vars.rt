@@ -2,9 +2,9 @@
 
 ghost use Rattle.std.specs.Prelude.{◌≡◌, map};
 ghost use Rattle.gs_tree.specs.View.{term_of, var_of};
-ghost use Rattle.gs_check.specs.Variables.{declared_kind, same_kind, term_kind, is_wrong, first_line, begins_with_leaf};
+ghost use Rattle.gs_tree.specs.Variables.{declared_kind, same_kind, term_kind, is_wrong, first_line, begins_with_leaf};
 
-use gs_tree::tree::{Expr, Var, VarKind};
+use gs_tree::{Expr, Var, VarKind};
 
 /// The kind of the variable of a name.
 pub(crate) fn find_kind(vars: &[Var], name: &[u8]) -> Option<VarKind>

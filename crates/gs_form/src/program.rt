@@ -8,7 +8,7 @@ ghost use Rattle.gs_form.specs.Straight.{way_of, writes, is_text, both_write, ap
 
 use gs_check::place_of;
 use gs_idl::{Dir, Idl, Kind};
-use gs_tree::tree::{Argument, Expr, Ident, Stmt, Tree};
+use gs_tree::{Argument, Expr, Ident, Stmt, Tree};
 use gs_types::{Blob, Name, NoMemory, Sequence};
 use std::alloc::Global;
 

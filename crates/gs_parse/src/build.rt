@@ -7,7 +7,7 @@ ghost use Rattle.gs_parse.specs.Grammar.{height};
 
 use crate::name::copied;
 use crate::stop::Stop;
-use gs_tree::tree::{Expr, Ident, Op};
+use gs_tree::{Expr, Ident, Op};
 use std::alloc::Global;
 
 /// An expression and its depth: 1 for a leaf.

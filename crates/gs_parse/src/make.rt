@@ -5,7 +5,7 @@ ghost use Rattle.gs_tree.specs.Program.{empty, block, set, choose, while, for, o
 ghost use Rattle.gs_tree.specs.View.{name_of, term_of, setting_of, formatted_of, passed_of, code_of, codes_of};
 ghost use Rattle.std.specs.Option.{option_map};
 
-use gs_tree::tree::{Argument, Assign, Expr, Format, Ident, Mode, Stmt};
+use gs_tree::{Argument, Assign, Expr, Format, Ident, Mode, Stmt};
 
 pub(crate) fn empty_stmt(line: u32) -> Stmt
     ensures { code_of result ≡ empty line }

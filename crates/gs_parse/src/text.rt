@@ -8,8 +8,7 @@ ghost use Rattle.gs_parse.specs.Faulty.{IsReadAs};
 use crate::fault::{ParseErr, ParseKind, kind_at, line_of_place};
 use crate::frame::read_program;
 use crate::stop::Stop;
-use gs_tree::tree::Tree;
-use gs_tree::{Tokens, tokens};
+use gs_tree::{Tokens, Tree, tokens};
 use std::alloc::Global;
 
 fn read_text(alloc: Global, tokens: &Tokens) -> Result<Tree, ParseErr>

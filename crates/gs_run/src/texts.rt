@@ -15,7 +15,7 @@ use gs_disk::{Disk, DiskErr, Whole, read_whole};
 use gs_form::{Worker, read_worker};
 use gs_idl::{Idl, IdlErr, IdlKind};
 use gs_parse::{ParseErr, ParseKind, parse};
-use gs_tree::tree::Tree;
+use gs_tree::Tree;
 use gs_types::{Blob, Name, NoMemory};
 use std::alloc::Global;
 

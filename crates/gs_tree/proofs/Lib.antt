@@ -3,5 +3,6 @@ pub mod Classes
 pub mod Lexing
 pub mod OneReading
 pub mod OneString
+pub mod Pieces
 pub mod Strings
 pub mod Texts

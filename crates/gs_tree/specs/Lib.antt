@@ -13,3 +13,7 @@ pub mod Shown
 pub mod Cut
 pub mod Printed
 pub mod Unlined
+pub mod Variables
+pub mod Formats
+pub mod Lines
+pub mod Laws

@@ -1,9 +1,12 @@
-//! Laws of the lexical grammar.
-ghost use Rattle.std.specs.Prelude.{◌≡◌, ℕ, List};
-ghost use Rattle.gs_tree.specs.Lexeme.{Lexeme};
-ghost use Rattle.gs_tree.specs.Lexicon.{IsLexed};
+//! Laws of the lexical grammar and of formats.
+ghost use Rattle.gs_tree.specs.Laws.{KindsOfPieces, OneReading};
 
 /// A text has one list of tokens at most.
 pub fn one_reading()
-    ensures { (text : List ℕ) (a b : List Lexeme) → IsLexed text a → IsLexed text b → a ≡ b }
+    ensures { OneReading }
+{}
+
+/// A format takes the kinds of its pieces.
+pub fn kinds_of_pieces()
+    ensures { KindsOfPieces }
 {}

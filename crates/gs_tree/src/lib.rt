@@ -14,13 +14,15 @@ mod put_stmt;
 pub mod sign;
 mod step;
 mod string;
-pub mod token;
-pub mod tree;
+mod token;
+mod tree;
 
 pub use lexer::tokens;
 pub use list::Tokens;
 pub use memory::NoMemory;
 pub use program::print;
+pub use token::{LexKind, Token, TokenKind};
+pub use tree::{Argument, Assign, Expr, Format, Ident, Mode, Op, Stmt, Tree, Var, VarKind};
 
 #[cfg(test)]
 mod tests;

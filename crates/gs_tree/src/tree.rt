@@ -120,6 +120,34 @@ pub enum Stmt {
     },
 }
 
+impl Stmt {
+    ghost use Rattle.std.specs.Prelude.{◌≡◌};
+    ghost use Rattle.gs_tree.specs.Lines.{line_of};
+    ghost use Rattle.gs_tree.specs.View.{code_of};
+
+    /// The statement's line: that of an assignment's variable, that of a task call's name.
+    pub fn line(&self) -> u32
+        ensures { result ≡ line_of (code_of self.now) }
+    {
+        match self {
+            Stmt::Empty { line } => *line,
+            Stmt::Block { line, .. } => *line,
+            Stmt::Set { a } => a.to.line,
+            Stmt::If { line, .. } => *line,
+            Stmt::While { line, .. } => *line,
+            Stmt::For { line, .. } => *line,
+            Stmt::OpenFile { line, .. } => *line,
+            Stmt::ReadLine { line, .. } => *line,
+            Stmt::CloseFile { line, .. } => *line,
+            Stmt::Barrier { line } => *line,
+            Stmt::Print { line, .. } => *line,
+            Stmt::PrintFile { line, .. } => *line,
+            Stmt::PrintStr { line, .. } => *line,
+            Stmt::Call { op, .. } => op.line,
+        }
+    }
+}
+
 /// An argument of a task call, with the line of its first token; `by_address` where `&` stood before it.
 #[derive(Drop)]
 pub struct Argument {

@@ -1,9 +1,9 @@
 use Rattle.std.proofs.Common.{◌≡◌, ◌+◌, true, false, map, drop, sym, ◌∙◌, ap, length-drop, arith}
 use Rattle.std.proofs.lemmas.List.{take_rest, drop-drop, drop_all}
 use Rattle.gs_tree.specs.View.{term_of, var_of}
-use Rattle.gs_check.specs.Formats.{format_kinds}
+use Rattle.gs_tree.specs.Formats.{format_kinds}
 use Rattle.gs_check.specs.Faults.{is_format}
-use Rattle.gs_check.specs.Variables.{is_wrong, term_kind}
+use Rattle.gs_tree.specs.Variables.{is_wrong, term_kind}
 use Rattle.gs_check.proofs.Fitting.{step_value, stop_value, stop_short, at_end}
 use Rattle.gs_check.proofs.format.is_format.Goals as goal
 use Rattle.gs_check.proofs.format.is_format.Goals.{then-used-args-via-then-used-args, then-used-args-via-else-used-args+then-is_wrong}

@@ -1,6 +1,6 @@
 use Rattle.std.proofs.Common.{◌≡◌, ◌≤◌, ◌-◌, length, map, drop}
 use Rattle.gs_tree.specs.View.{term_of, var_of}
-use Rattle.gs_check.specs.Formats.{format_kinds}
+use Rattle.gs_tree.specs.Formats.{format_kinds}
 use Rattle.gs_check.specs.Faults.{is_format}
 use Rattle.gs_check.proofs.format.is_format.Given as goal
 

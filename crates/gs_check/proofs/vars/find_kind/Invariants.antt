@@ -1,6 +1,6 @@
 use Rattle.std.proofs.Common.{◌≡◌, map, drop}
 use Rattle.gs_tree.specs.View.{var_of}
-use Rattle.gs_check.specs.Variables.{declared_kind}
+use Rattle.gs_tree.specs.Variables.{declared_kind}
 use Rattle.gs_check.proofs.vars.find_kind.Given as goal
 
 abbrev pub invariant-loop-v : goal.invariant-loop-v
