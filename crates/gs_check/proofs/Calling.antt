@@ -1,26 +1,22 @@
 -- Arguments at the places of an operation.
-use Rattle.std.proofs.Common.{◌≡◌, ℕ, ◌+◌, ◌<◌, ◌≤◌, Bool, true, false, ◌&&◌, ◌||◌, List, [], ◌∷◌, ◌++◌, length, take, drop, map, get_or, slice_get, Some, refl, sym, ap, ◌∙◌, subst, arith}
+use Rattle.std.proofs.Common.{◌≡◌, ℕ, ◌+◌, ◌<◌, Bool, true, false, ◌&&◌, ◌||◌, List, [], ◌∷◌, ◌++◌, length, take, drop, map, get_or, slice_get, Some, refl, sym, ap, ◌∙◌, arith}
 use Rattle.std.proofs.lemmas.List.{drop_more, take_more, map-append, length-take-le}
-use Rattle.std.specs.Prelude.{Option, None, is_some}
+use Rattle.std.specs.Prelude.{Option, None, is_some, option_map}
 use Rattle.std.proofs.lemmas.Option.{get_or_from_slice_get, slice_get_within}
-use Rattle.gs_idl.specs.Interface.{Signature, Param}
+use Rattle.gs_idl.specs.Interface.{Param, is_out}
+use Rattle.gs_idl.specs.declared.idl.Dir.{Dir}
+use Rattle.gs_idl.specs.declared.idl.ParamKind.{ParamKind}
 use Rattle.gs_tree.specs.declared.tree.Argument.{Argument}
 use Rattle.gs_tree.specs.View.{term_of, passed_of}
 use Rattle.gs_check.specs.declared.kind.Fault.{Fault}
-use Rattle.gs_check.specs.Faults.{Vars, is_output, is_variable_of, stands_out, ◌then◌, passed_fault, all_passed_fault}
+use Rattle.gs_check.specs.Faults.{Vars, is_variable_of, stands_out, ◌then◌, passed_fault, all_passed_fault}
 
--- the operation at a place has room for as many arguments
-pub has_room : (ops : List Signature) (i n : ℕ) (o p : Signature) → slice_get ops i ≡ Some o → slice_get ops i ≡ Some p → n ≤ length o.params → n ≤ length p.params
-has_room ops i n o p e f h =
-    let same : Some o ≡ Some p = sym e ∙ f in
-    let o_is_p : o ≡ p = cc in
-    subst (λ (x : Signature). n ≤ length x.params) o_is_p h
+-- the direction and the kind that a place has
+pub dir_is : (ps : List Param) (k : ℕ) (p : Param) (d : Dir) → slice_get ps k ≡ Some p → option_map (λ q. q.dir) (slice_get ps k) ≡ Some d → d ≡ p.dir
+dir_is ps k p d here shown = let e : Some p.dir ≡ Some d = ap (option_map (λ (q : Param). q.dir)) (sym here) ∙ shown in cc
 
-pub same_length : (ops : List Signature) (i n : ℕ) (o p : Signature) → slice_get ops i ≡ Some o → slice_get ops i ≡ Some p → n ≡ length o.params → n ≡ length p.params
-same_length ops i n o p e f h =
-    let same : Some o ≡ Some p = sym e ∙ f in
-    let o_is_p : o ≡ p = cc in
-    subst (λ (x : Signature). n ≡ length x.params) o_is_p h
+pub kind_is : (ps : List Param) (k : ℕ) (p : Param) (m : ParamKind) → slice_get ps k ≡ Some p → option_map (λ q. q.kind) (slice_get ps k) ≡ Some m → m ≡ p.kind
+kind_is ps k p m here shown = let e : Some p.kind ≡ Some m = ap (option_map (λ (q : Param). q.kind)) (sym here) ∙ shown in cc
 
 pub param_at : (ps : List Param) (k : ℕ) (p : Param) → slice_get ps k ≡ Some p → drop k ps ≡ p ∷ drop (k + 1) ps
 param_at ps k p e = drop_more ps k p (slice_get_within ps k p e) ∙ ap (λ x. x ∷ drop (k + 1) ps) (get_or_from_slice_get ps k p p e)
@@ -29,16 +25,16 @@ pub passed_at : (args : List Argument) (k : ℕ) (a : Argument) → k < length a
 passed_at args k a h e = ap (map passed_of) (drop_more args k a h) ∙ ap (λ y. passed_of y ∷ map passed_of (drop (k + 1) args)) (sym e)
 
 stands_at : (ps : List Param) (args : List Argument) (k : ℕ) (p : Param) (a : Argument) (name : List ℕ) → slice_get ps k ≡ Some p → k < length args → a ≡ get_or args k a →
-    stands_out (drop k ps) (map passed_of (drop k args)) name ≡ (is_output p.dir && is_variable_of name (term_of a.e)) || stands_out (drop (k + 1) ps) (map passed_of (drop (k + 1) args)) name
+    stands_out (drop k ps) (map passed_of (drop k args)) name ≡ (is_out p.dir && is_variable_of name (term_of a.e)) || stands_out (drop (k + 1) ps) (map passed_of (drop (k + 1) args)) name
 stands_at ps args k p a name e h f =
     ap (λ r. stands_out r (map passed_of (drop k args)) name) (param_at ps k p e) ∙ ap (λ r. stands_out (p ∷ drop (k + 1) ps) r name) (passed_at args k a h f)
 
 pub stands_here : (ps : List Param) (args : List Argument) (k : ℕ) (p : Param) (a : Argument) (name : List ℕ) → slice_get ps k ≡ Some p → k < length args → a ≡ get_or args k a →
-    is_output p.dir ≡ true → is_variable_of name (term_of a.e) ≡ true → stands_out (drop k ps) (map passed_of (drop k args)) name ≡ true
+    is_out p.dir ≡ true → is_variable_of name (term_of a.e) ≡ true → stands_out (drop k ps) (map passed_of (drop k args)) name ≡ true
 stands_here ps args k p a name e h f x y = stands_at ps args k p a name e h f ∙ (rw (x, y) refl)
 
 pub stands_later : (ps : List Param) (args : List Argument) (k : ℕ) (p : Param) (a : Argument) (name : List ℕ) → slice_get ps k ≡ Some p → k < length args → a ≡ get_or args k a →
-    (is_output p.dir && is_variable_of name (term_of a.e)) ≡ false →
+    (is_out p.dir && is_variable_of name (term_of a.e)) ≡ false →
     stands_out (drop k ps) (map passed_of (drop k args)) name ≡ stands_out (drop (k + 1) ps) (map passed_of (drop (k + 1) args)) name
 stands_later ps args k p a name e h f x = stands_at ps args k p a name e h f ∙ ap (λ b. b || stands_out (drop (k + 1) ps) (map passed_of (drop (k + 1) args)) name) x
 

@@ -9,11 +9,9 @@ use Rattle.gs_check.specs.declared.kind.CheckKind.TheVariants.{Twice, TooMany, U
 use Rattle.gs_tree.specs.declared.tree.VarKind.{VarKind}
 use Rattle.gs_tree.specs.declared.tree.VarKind.TheVariants.{Int, Str, Handle}
 use Rattle.gs_tree.specs.Program.{Name, Term, num, lit, var, atoi, strcmp, neg, not_, two, Setting, Formatted, Passed, Code, empty, block, set, choose, while, for, open_file, read_line, close_file, barrier, print, print_file, print_str, call, Codes, none, one, MaybeCodes, without, otherwise, Program}
-use Rattle.gs_idl.specs.Interface.{Op, Param}
-use Rattle.gs_idl.specs.declared.idl.Dir.{Dir}
-use Rattle.gs_idl.specs.declared.idl.Dir.TheVariants.{Input, Both, Output}
-use Rattle.gs_idl.specs.declared.idl.Kind as idl
-use Rattle.gs_idl.specs.declared.idl.Kind.TheVariants as of
+use Rattle.gs_idl.specs.Interface.{Param, Signature, op_place, params_at, is_out, is_out_scalar}
+use Rattle.gs_idl.specs.declared.idl.ParamKind.{ParamKind}
+use Rattle.gs_idl.specs.declared.idl.ParamKind.TheVariants as of
 use Rattle.gs_tree.specs.Formats.{format_kinds}
 use Rattle.gs_tree.specs.Variables.{declared_kind, term_kind, is_wrong, first_line, begins_with_leaf}
 
@@ -104,29 +102,11 @@ format_fault vars format args =
 
 -- ---- task calls
 
--- the operation of a name
-abbrev pub find_op : List Op → List ℕ → Option Op
-find_op [] name = None
-find_op (o ∷ os) name = if bytes_eq o.name name then Some o else find_op os name
-
 -- a File place takes a file's name
-abbrev pub place_kind : idl.Kind → VarKind
+abbrev pub place_kind : ParamKind → VarKind
 place_kind of.File = Str
 place_kind of.Int = Int
 place_kind of.Str = Str
-
-abbrev pub is_output : Dir → Bool
-is_output Output = true
-is_output Input = false
-is_output Both = false
-
-abbrev pub is_file : idl.Kind → Bool
-is_file of.File = true
-is_file of.Int = false
-is_file of.Str = false
-
-abbrev pub is_out_scalar : Param → Bool
-is_out_scalar p = is_output p.dir && not (is_file p.kind)
 
 abbrev pub is_variable : Term → Bool
 is_variable (var name) = true
@@ -141,7 +121,7 @@ is_variable_of name t = false
 abbrev pub stands_out : List Param → List Passed → List ℕ → Bool
 stands_out [] args name = false
 stands_out (p ∷ ps) [] name = false
-stands_out (p ∷ ps) (a ∷ args) name = (is_output p.dir && is_variable_of name a.value) || stands_out ps args name
+stands_out (p ∷ ps) (a ∷ args) name = (is_out p.dir && is_variable_of name a.value) || stands_out ps args name
 
 -- it is a variable that stands in an out place of these
 abbrev pub repeats : List Param → List Passed → Term → Bool
@@ -168,7 +148,7 @@ own_fault vars here a = if leads_with_leaf a then inner_fault vars here a.value 
 -- an argument, after those before
 abbrev pub passed_fault : Vars → List Param → (before : List Passed) → Param → Passed → Option Fault
 passed_fault vars params before p a =
-    fault_if (is_output p.dir && repeats params before a.value) a.line Twice then own_fault vars (passed_place_fault vars p a) a
+    fault_if (is_out p.dir && repeats params before a.value) a.line Twice then own_fault vars (passed_place_fault vars p a) a
 
 -- the arguments from one on, at these places
 abbrev pub all_passed_fault : Vars → List Param → (before : List Passed) → List Param → List Passed → Option Fault
@@ -177,15 +157,17 @@ all_passed_fault vars params before (p ∷ ps) [] = None
 all_passed_fault vars params before (p ∷ ps) (a ∷ args) =
     passed_fault vars params before p a then all_passed_fault vars params (before ++ a ∷ []) ps args
 
-abbrev pub call_fault : Vars → Option Op → (line : ℕ) → List Passed → Option Fault
-call_fault vars None line args = Some (record { line = line; kind = Unknown })
-call_fault vars (Some o) line args =
-    fault_if (not (length o.params == length args)) line WrongCount then all_passed_fault vars o.params [] o.params args
+-- a call of the operation at this place, where one has the name
+abbrev pub call_fault : List Signature → Vars → (op : Option ℕ) → (line : ℕ) → List Passed → Option Fault
+call_fault ops vars None line args = Some (record { line = line; kind = Unknown })
+call_fault ops vars (Some op) line args =
+    fault_if (not (length (params_at ops op) == length args)) line WrongCount
+    then all_passed_fault vars (params_at ops op) [] (params_at ops op) args
 
 -- ---- statements
 
 abbrev mutual
-  pub code_fault : List Op → Vars → Code → Option Fault
+  pub code_fault : List Signature → Vars → Code → Option Fault
   code_fault ops vars (empty line) = None
   code_fault ops vars (block line body) = codes_fault ops vars body
   code_fault ops vars (set a) = setting_fault vars a
@@ -201,24 +183,24 @@ abbrev mutual
   code_fault ops vars (print line format args) = format_fault vars format args
   code_fault ops vars (print_file line handle format args) = name_fault vars Handle handle then format_fault vars format args
   code_fault ops vars (print_str line to format args) = name_fault vars Str to then format_fault vars format args
-  code_fault ops vars (call op args) = call_fault vars (find_op ops op.text) op.line args
+  code_fault ops vars (call op args) = call_fault ops vars (op_place ops op.text) op.line args
 
-  pub codes_fault : List Op → Vars → Codes → Option Fault
+  pub codes_fault : List Signature → Vars → Codes → Option Fault
   codes_fault ops vars none = None
   codes_fault ops vars (one code rest) = code_fault ops vars code then codes_fault ops vars rest
 
-  pub else_fault : List Op → Vars → MaybeCodes → Option Fault
+  pub else_fault : List Signature → Vars → MaybeCodes → Option Fault
   else_fault ops vars without = None
   else_fault ops vars (otherwise body) = codes_fault ops vars body
 
 -- ---- the whole
 
 -- a variable is declared again, or has an operation's name
-abbrev pub is_taken : List Op → (before : Vars) → List ℕ → Bool
-is_taken ops before name = is_some (declared_kind before name) || is_some (find_op ops name)
+abbrev pub is_taken : List Signature → (before : Vars) → List ℕ → Bool
+is_taken ops before name = is_some (declared_kind before name) || is_some (op_place ops name)
 
 -- the variables from one on, after those before
-abbrev pub vars_fault : List Op → (before : Vars) → Vars → Option Fault
+abbrev pub vars_fault : List Signature → (before : Vars) → Vars → Option Fault
 vars_fault ops before [] = None
 vars_fault ops before (v ∷ vs) =
     fault_if (is_taken ops before v.0.text) v.0.line Twice then fault_if (length before == 128) v.0.line TooMany
@@ -228,5 +210,5 @@ abbrev pub initial_fault : Vars → List Setting → Option Fault
 initial_fault vars [] = None
 initial_fault vars (s ∷ ss) = setting_fault vars s then initial_fault vars ss
 
-abbrev pub fault_of : List Op → Program → Option Fault
+abbrev pub fault_of : List Signature → Program → Option Fault
 fault_of ops p = vars_fault ops [] p.vars then initial_fault p.vars p.first then codes_fault ops p.vars p.body

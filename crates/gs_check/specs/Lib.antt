@@ -1,3 +1,5 @@
 pub mod Faults
 pub mod Conversions
 pub mod Passing
+pub mod Passes
+pub mod Laws

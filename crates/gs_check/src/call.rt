@@ -1,30 +1,29 @@
 //! Checks of task calls.
 
 ghost use Rattle.std.specs.Prelude.{◌≡◌, ◌&&◌, ◌≤◌, ◌<◌, [], length, map, Some, slice_get};
-ghost use Rattle.gs_idl.specs.Interface.{Signature, Param};
+ghost use Rattle.gs_idl.specs.Interface.{Param, op_place, params_at, is_out, is_out_scalar};
 ghost use Rattle.gs_tree.specs.View.{term_of, passed_of, name_of, var_of};
-ghost use Rattle.gs_check.specs.Faults.{fault_if, place_kind, is_output, is_out_scalar, is_variable, is_variable_of, stands_out, repeats, leads_with_leaf, passed_place_fault, own_fault, passed_fault, all_passed_fault, find_op, call_fault};
+ghost use Rattle.gs_check.specs.Faults.{fault_if, place_kind, is_variable, is_variable_of, stands_out, repeats, leads_with_leaf, passed_place_fault, own_fault, passed_fault, all_passed_fault, call_fault};
 
 use crate::expr::{fault_if, inner_fault};
 use crate::kind::{CheckKind, Fault};
-use crate::names::place_of;
 use crate::vars::{begins_with_leaf, expr_kind, first_line, is_wrong};
-use gs_idl::{Dir, Idl, Kind};
+use gs_idl::{Dir, Idl, ParamKind};
 use gs_tree::{Argument, Expr, Ident, Var, VarKind};
 
 // A file's name is passed as a string.
-fn place_kind(kind: Kind) -> VarKind
+fn place_kind(kind: ParamKind) -> VarKind
     ensures { result ≡ place_kind kind }
 {
     match kind {
-        Kind::File => VarKind::Str,
-        Kind::Int => VarKind::Int,
-        Kind::Str => VarKind::Str,
+        ParamKind::File => VarKind::Str,
+        ParamKind::Int => VarKind::Int,
+        ParamKind::Str => VarKind::Str,
     }
 }
 
-fn is_output(dir: Dir) -> bool
-    ensures { result ≡ is_output dir }
+fn is_out(dir: Dir) -> bool
+    ensures { result ≡ is_out dir }
 {
     match dir {
         Dir::Output => true,
@@ -33,15 +32,15 @@ fn is_output(dir: Dir) -> bool
     }
 }
 
-fn is_out_scalar(dir: Dir, kind: Kind) -> bool
+fn is_out_scalar(dir: Dir, kind: ParamKind) -> bool
     ensures { (p : Param) → p.dir ≡ dir → p.kind ≡ kind → result ≡ is_out_scalar p }
 {
     let scalar = match kind {
-        Kind::File => false,
-        Kind::Int => true,
-        Kind::Str => true,
+        ParamKind::File => false,
+        ParamKind::Int => true,
+        ParamKind::Str => true,
     };
-    is_output(dir) && scalar
+    is_out(dir) && scalar
 }
 
 fn is_variable(e: &Expr) -> bool
@@ -80,7 +79,7 @@ fn leads_with_leaf(a: &Argument) -> bool
     !a.by_address && begins_with_leaf(&a.e) && a.line == first_line(&a.e)
 }
 
-fn place_fault(a: &Argument, vars: &[Var], dir: Dir, kind: Kind) -> Option<Fault>
+fn place_fault(a: &Argument, vars: &[Var], dir: Dir, kind: ParamKind) -> Option<Fault>
     ensures { (p : Param) → p.dir ≡ dir → p.kind ≡ kind → result ≡ passed_place_fault (map var_of vars.now) p (passed_of a.now) }
 {
     let wrong = is_wrong(place_kind(kind), expr_kind(&a.e, vars));
@@ -97,12 +96,13 @@ fn place_fault(a: &Argument, vars: &[Var], dir: Dir, kind: Kind) -> Option<Fault
 }
 
 fn stands_out(idl: &Idl, op: u8, before: &[Argument], name: &[u8]) -> bool
-    requires { (o : Signature) × (slice_get idl.now.ops op ≡ Some o) × (length before.now ≤ length o.params) × (length before.now < 256) }
-    ensures { (o : Signature) → slice_get idl.now.ops op ≡ Some o → result ≡ stands_out o.params (map passed_of before.now) name.now }
+    requires room { length before.now ≤ length (params_at idl.now.ops op) }
+    requires few { length before.now < 256 }
+    ensures { result ≡ stands_out (params_at idl.now.ops op) (map passed_of before.now) name.now }
 {
     for k in 0..before.len() {
         let (dir, _kind) = idl.param(op, k as u8);
-        if is_output(dir) && is_variable_of(name, &before[k].e) {
+        if is_out(dir) && is_variable_of(name, &before[k].e) {
             return true;
         }
     }
@@ -111,8 +111,9 @@ fn stands_out(idl: &Idl, op: u8, before: &[Argument], name: &[u8]) -> bool
 
 // The argument is a variable that stands in an out place before.
 fn repeats(idl: &Idl, op: u8, before: &[Argument], e: &Expr) -> bool
-    requires { (o : Signature) × (slice_get idl.now.ops op ≡ Some o) × (length before.now ≤ length o.params) × (length before.now < 256) }
-    ensures { (o : Signature) → slice_get idl.now.ops op ≡ Some o → result ≡ repeats o.params (map passed_of before.now) (term_of e.now) }
+    requires room { length before.now ≤ length (params_at idl.now.ops op) }
+    requires few { length before.now < 256 }
+    ensures { result ≡ repeats (params_at idl.now.ops op) (map passed_of before.now) (term_of e.now) }
 {
     match e {
         Expr::Num { line: _, v: _ } => false,
@@ -138,15 +139,16 @@ fn own_fault(a: &Argument, vars: &[Var], here: Option<Fault>) -> Option<Fault>
 
 // A variable in an out place that stands in one before.
 fn twice_fault(dir: Dir, again: bool, line: u32) -> Option<Fault>
-    ensures { result ≡ fault_if (is_output dir && again) line CheckKind.Twice }
+    ensures { result ≡ fault_if (is_out dir && again) line CheckKind.Twice }
 {
-    fault_if(is_output(dir) && again, line, CheckKind::Twice)
+    fault_if(is_out(dir) && again, line, CheckKind::Twice)
 }
 
 fn passed_fault(idl: &Idl, op: u8, before: &[Argument], a: &Argument, vars: &[Var]) -> Option<Fault>
-    requires { (o : Signature) × (slice_get idl.now.ops op ≡ Some o) × (length before.now < length o.params) × (length before.now < 256) }
-    ensures { (o : Signature) (p : Param) → slice_get idl.now.ops op ≡ Some o → slice_get o.params (length before.now) ≡ Some p
-        → result ≡ passed_fault (map var_of vars.now) o.params (map passed_of before.now) p (passed_of a.now) }
+    requires room { length before.now < length (params_at idl.now.ops op) }
+    requires few { length before.now < 256 }
+    ensures { (p : Param) → slice_get (params_at idl.now.ops op) (length before.now) ≡ Some p
+        → result ≡ passed_fault (map var_of vars.now) (params_at idl.now.ops op) (map passed_of before.now) p (passed_of a.now) }
 {
     let (dir, kind) = idl.param(op, before.len() as u8);
     let again = repeats(idl, op, before, &a.e);
@@ -155,9 +157,10 @@ fn passed_fault(idl: &Idl, op: u8, before: &[Argument], a: &Argument, vars: &[Va
 }
 
 fn args_fault(idl: &Idl, op: u8, args: &[Argument], vars: &[Var]) -> Option<Fault>
-    requires { (o : Signature) × (slice_get idl.now.ops op ≡ Some o) × (length args.now ≡ length o.params) × (length args.now < 256) }
-    ensures { (o : Signature) → slice_get idl.now.ops op ≡ Some o
-        → result ≡ all_passed_fault (map var_of vars.now) o.params [] o.params (map passed_of args.now) }
+    requires room { length args.now ≡ length (params_at idl.now.ops op) }
+    requires few { length args.now < 256 }
+    ensures { let params = params_at idl.now.ops op in
+        result ≡ all_passed_fault (map var_of vars.now) params [] params (map passed_of args.now) }
 {
     for j in 0..args.len() {
         let found = passed_fault(idl, op, &args[..j], &args[j], vars);
@@ -170,9 +173,9 @@ fn args_fault(idl: &Idl, op: u8, args: &[Argument], vars: &[Var]) -> Option<Faul
 
 /// A task call.
 pub(crate) fn call_fault(idl: &Idl, op: &Ident, args: &[Argument], vars: &[Var]) -> Option<Fault>
-    ensures { result ≡ call_fault (map var_of vars.now) (find_op idl.now.ops (name_of op.now).text) op.now.line (map passed_of args.now) }
+    ensures { result ≡ call_fault idl.now.ops (map var_of vars.now) (op_place idl.now.ops (name_of op.now).text) op.now.line (map passed_of args.now) }
 {
-    match place_of(idl, &op.name) {
+    match idl.find(&op.name) {
         None => fault_if(true, op.line, CheckKind::Unknown),
         Some(i) => {
             if args.len() != idl.param_count(i) as usize {

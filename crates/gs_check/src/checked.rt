@@ -17,11 +17,13 @@ pub struct Checked {
 
 impl Checked {
     ghost use Rattle.gs_check.specs.Passing.{program_in, interface_in};
+    ghost use Rattle.gs_check.specs.Passes.{ProgramPasses};
 
     /// The program.
     pub fn tree(&self) -> &Tree
         ensures program { program_of result.now ≡ program_in self.now }
         ensures passed { is_some (fault_of (interface_in self.now).ops (program_in self.now)) ≡ false }
+        ensures passes { ProgramPasses (interface_in self.now).ops (program_in self.now) }
     {
         &self.tree
     }

@@ -6,6 +6,7 @@ mod checked;
 mod expr;
 mod format;
 mod kind;
+pub mod laws;
 mod names;
 mod run;
 mod stmt;
@@ -15,5 +16,4 @@ mod vars;
 
 pub use checked::Checked;
 pub use kind::CheckKind;
-pub use names::place_of;
 pub use run::{CheckErr, check};

@@ -1,10 +1,9 @@
 //! Checks of the declared names.
 
-ghost use Rattle.std.specs.Prelude.{◌≡◌, ◌<◌, ◌≤◌, ◌==◌, ◌||◌, None, MatchOption, slice_get, length, map, [], take, drop, is_some};
-ghost use Rattle.gs_idl.specs.Interface.{Signature};
+ghost use Rattle.std.specs.Prelude.{◌≡◌, ◌==◌, ◌||◌, length, map, [], take, drop, is_some};
 ghost use Rattle.gs_tree.specs.View.{name_of, var_of};
 ghost use Rattle.gs_tree.specs.Variables.{declared_kind};
-ghost use Rattle.gs_check.specs.Faults.{fault_if, find_op, is_taken, vars_fault, ◌then◌};
+ghost use Rattle.gs_check.specs.Faults.{fault_if, is_taken, vars_fault, ◌then◌};
 
 use crate::expr::fault_if;
 use crate::kind::{CheckKind, Fault};
@@ -15,23 +14,10 @@ use gs_tree::Var;
 /// The most variables of a program.
 const MAX_VARS: usize = 128;
 
-/// The place of the first operation with this name, from 0; `None` exactly where none has it.
-pub fn place_of(idl: &Idl, name: &[u8]) -> Option<u8>
-    ensures found { MatchOption result (find_op idl.now.ops name.now ≡ None) (λ i. slice_get idl.now.ops i ≡ find_op idl.now.ops name.now) }
-    ensures within { MatchOption result (find_op idl.now.ops name.now ≡ None) (λ i. i < length idl.now.ops) }
-{
-    for i in 0..idl.op_count() {
-        if idl.op_name(i) == name {
-            return Some(i);
-        }
-    }
-    None
-}
-
 fn is_taken(idl: &Idl, before: &[Var], name: &[u8]) -> bool
     ensures { result ≡ is_taken idl.now.ops (map var_of before.now) name.now }
 {
-    find_kind(before, name).is_some() || place_of(idl, name).is_some()
+    find_kind(before, name).is_some() || idl.find(name).is_some()
 }
 
 fn var_fault(idl: &Idl, before: &[Var], v: &Var) -> Option<Fault>

@@ -33,8 +33,8 @@ fn tree_fault(tree: &Tree, idl: &Idl) -> Option<Fault>
     ensures { result ≡ fault_of idl.now.ops (program_of tree.now) }
 {
     vars_fault(idl, &tree.vars)
-        .or(initial_fault(&tree.first, &tree.vars))
-        .or(body_fault(&tree.body, idl, &tree.vars))
+        .or_else(|| initial_fault(&tree.first, &tree.vars))
+        .or_else(|| body_fault(&tree.body, idl, &tree.vars))
 }
 
 /// Checks a program against the operations that it may call. On a fault both are given up. It takes no memory yet.

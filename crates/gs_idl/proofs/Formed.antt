@@ -1,10 +1,8 @@
 -- What was read whole is well formed.
-use Rattle.std.proofs.Common.{◌≡◌, ◌≢◌, ℕ, ◌+◌, ◌<◌, ◌⊎◌, Bool, true, false, List, [], ◌∷◌, length, Option, Some, None, refl, sym, ap, subst, ◌∙◌, inl, inr, arith}
-use Rattle.std.specs.Prelude.{slice_get}
+use Rattle.std.proofs.Common.{◌≡◌, ◌≢◌, ℕ, ◌+◌, ◌<◌, Bool, true, false, List, [], ◌∷◌, Option, Some, None, refl, sym, subst, ◌∙◌, arith}
 use Rattle.gs_idl.specs.Interface.{Param, Signature, Interface, KeepParamRules, KeepRules}
 use Rattle.gs_idl.specs.Word.{is_keyword}
 use Rattle.gs_idl.specs.Lexicon.{IdlSign}
-use Rattle.gs_idl.specs.Grammar.{refused}
 use Rattle.gs_idl.specs.declared.idl.ParamKind.{ParamKind}
 use Rattle.gs_idl.specs.declared.idl.ParamKind.TheVariants.{File, Int, Str}
 use Rattle.gs_idl.specs.declared.token.IdlKind.{IdlKind}

@@ -1,9 +1,9 @@
 -- Operations by their names, and by their places.
-use Rattle.std.proofs.Common.{◌≡◌, ℕ, zero, suc, ◌+◌, ◌<◌, ◌≤◌, Bool, true, false, List, [], ◌∷◌, length, drop, map, get_or, slice_get, Option, Some, None, refl, sym, ap, ◌∙◌, arith, option_map}
+use Rattle.std.proofs.Common.{◌≡◌, ℕ, suc, ◌+◌, ◌<◌, ◌≤◌, Bool, true, false, List, ◌∷◌, length, drop, map, get_or, Option, Some, None, refl, sym, ap, ◌∙◌, arith, option_map}
 use Rattle.std.specs.Prelude.{if◌then◌else◌}
 use Rattle.std.specs.Str.{bytes_eq}
 use Rattle.std.proofs.lemmas.List.{drop_more, drop_all}
-use Rattle.gs_idl.specs.Interface.{Signature, op_place}
+use Rattle.gs_idl.specs.Interface.{op_place}
 use Rattle.gs_idl.specs.Token.{further}
 use Rattle.gs_idl.specs.View.{op_of}
 use Rattle.gs_idl.specs.declared.idl.Operation.{Operation}

@@ -5,7 +5,7 @@ ghost use Rattle.gs_idl.specs.Printed.{param_text, more_text, params_text, op_te
 ghost use Rattle.gs_idl.specs.View.{param_of, op_of};
 
 use crate::idl::{Operation, Parameter};
-use crate::{Dir, Idl, ParamKind, NoMemory};
+use crate::{Dir, Idl, NoMemory, ParamKind};
 use std::alloc::Global;
 
 fn put(out: &mut Vec<u8>, text: &[u8]) -> Result<(), NoMemory>

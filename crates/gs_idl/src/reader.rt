@@ -8,7 +8,7 @@ ghost use Rattle.gs_idl.specs.Token.{sign_of, mark_of};
 ghost use Rattle.gs_idl.specs.View.{param_of, op_of};
 ghost use Rattle.gs_idl.specs.Reading.{signs, sign_at, IsStanding, IsPassed, IsNamed, IsLast, Moves, Ends, Reads, line_at, Refuses};
 
-use crate::idl::{Dir, Idl, ParamKind, Operation, Parameter};
+use crate::idl::{Dir, Idl, Operation, ParamKind, Parameter};
 use crate::keyword::is_keyword;
 use crate::token::{IdlKind, IdlSign, Symbol, Token, tokens};
 use std::alloc::{AllocError, AllocFailed, Global};

@@ -1,4 +1,4 @@
-use Rattle.std.proofs.Common.{◌∙◌, true, false, sym, ap, ◌≡◌, List, ℕ}
+use Rattle.std.proofs.Common.{◌∙◌, sym, ap, List, ℕ}
 use Rattle.std.specs.Str.{bytes_eq}
 use Rattle.gs_idl.proofs.Places.{place_found, place_later, place_missing}
 use Rattle.gs_idl.proofs.idl.place_of.Goals as goal

@@ -1,4 +1,4 @@
-use Rattle.std.proofs.Common.{◌∙◌, [], map, drop, length, arith}
+use Rattle.std.proofs.Common.{◌∙◌, [], map, drop, arith}
 use Rattle.std.proofs.lemmas.List.{length-map}
 use Rattle.gs_idl.specs.Machine.{start, at_ops, closed}
 use Rattle.gs_idl.specs.Reading.{signs}
