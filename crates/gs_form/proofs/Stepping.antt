@@ -1,14 +1,13 @@
 -- Lists that are put together one item after the other.
 use Rattle.std.proofs.Common.{◌≡◌, ℕ, ◌+◌, ◌<◌, true, false, List, [], ◌∷◌, ◌++◌, length, drop, map, Option, Some, None, refl, sym, ap, subst, ◌∙◌, append_assoc, slice_get, arith, get_or}
 use Rattle.gs_types.specs.Name.{IsName, IsBadAt}
-use Rattle.gs_idl.specs.Interface.{Op, Param}
+use Rattle.gs_idl.specs.Interface.{Signature, Param, op_place, params_at}
 use Rattle.gs_tree.specs.Program.{Passed}
 use Rattle.gs_tree.specs.View.{passed_of}
 use Rattle.gs_tree.specs.declared.tree.Argument.{Argument}
 use Rattle.gs_form.specs.Named.{is_name}
 use Rattle.gs_form.specs.Straight.{and_first, named, place_for, places_for, step_by, step_at, is_sound}
 use Rattle.gs_form.specs.declared.program.Place.{Place}
-use Rattle.gs_check.specs.Faults.{find_op}
 use Rattle.gs_check.proofs.Calling.{param_at, passed_at}
 use Rattle.gs_form.proofs.WordLaws.{name_gives, bad_name}
 
@@ -57,16 +56,16 @@ no_place ps args j p a xs all there lt is place was =
     ap (λ o. before xs (and_first o rest)) place ∙ sym (ap (before xs) (places_at ps args j p a there lt is)) ∙ was
 
 -- a call of the operation at a place
-pub step_none : (ops : List Op) (idl_name program_name name : List ℕ) (i : ℕ) (o : Op) (args : List Passed) → slice_get ops i ≡ find_op ops name → slice_get ops i ≡ Some o → None ≡ places_for o.params args
-    → None ≡ step_by idl_name program_name (find_op ops name) name args
-step_none ops idl_name program_name name i o args found there none =
-    ap (step_at idl_name program_name name) none ∙ ap (λ f. step_by idl_name program_name f name args) (sym there ∙ found)
+pub step_none : (ops : List Signature) (idl_name program_name name : List ℕ) (i : ℕ) (args : List Passed) → Some i ≡ op_place ops name → None ≡ places_for (params_at ops i) args
+    → None ≡ step_by ops idl_name program_name (op_place ops name) name args
+step_none ops idl_name program_name name i args found none =
+    ap (step_at idl_name program_name name) none ∙ ap (λ f. step_by ops idl_name program_name f name args) found
 
-pub step_some : (ops : List Op) (idl_name program_name name op : List ℕ) (i : ℕ) (o : Op) (args : List Passed) (places : List Place) → slice_get ops i ≡ find_op ops name → slice_get ops i ≡ Some o
-    → Some places ≡ places_for o.params args → is_sound idl_name program_name places ≡ true → op ≡ name → Some (record { op = op; places = places }) ≡ step_by idl_name program_name (find_op ops name) name args
-step_some ops idl_name program_name name op i o args places found there is sound same =
+pub step_some : (ops : List Signature) (idl_name program_name name op : List ℕ) (i : ℕ) (args : List Passed) (places : List Place) → Some i ≡ op_place ops name
+    → Some places ≡ places_for (params_at ops i) args → is_sound idl_name program_name places ≡ true → op ≡ name → Some (record { op = op; places = places }) ≡ step_by ops idl_name program_name (op_place ops name) name args
+step_some ops idl_name program_name name op i args places found is sound same =
     let here : step_at idl_name program_name name (Some places) ≡ Some (record { op = name; places = places }) = rw sound refl in
-    ap (λ (w : List ℕ). Some (record { op = w; places = places })) same ∙ sym here ∙ ap (step_at idl_name program_name name) is ∙ ap (λ f. step_by idl_name program_name f name args) (sym there ∙ found)
+    ap (λ (w : List ℕ). Some (record { op = w; places = places })) same ∙ sym here ∙ ap (step_at idl_name program_name name) is ∙ ap (λ f. step_by ops idl_name program_name f name args) found
 
 -- of another number of arguments than of parameters
 pub too_many : (ps : List Param) (args : List Passed) → (length args ≡ length ps → ⊥) → None ≡ places_for ps args

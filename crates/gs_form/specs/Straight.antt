@@ -2,13 +2,12 @@
 use Rattle.std.specs.Prelude.{ℕ, Bool, true, false, not, ◌&&◌, ◌||◌, nat_le, List, [], ◌∷◌, length, Option, Some, None, if◌then◌else◌}
 use Rattle.std.specs.List.{list_any}
 use Rattle.std.specs.Str.{bytes_eq}
-use Rattle.gs_idl.specs.Interface.{Interface, Op, Param}
+use Rattle.gs_idl.specs.Interface.{Interface, Signature, Param, op_place, params_at}
 use Rattle.gs_idl.specs.declared.idl.Dir.{Dir}
 use Rattle.gs_idl.specs.declared.idl.Dir.TheVariants.{Input, Both, Output}
-use Rattle.gs_idl.specs.declared.idl.Kind.{Kind}
-use Rattle.gs_idl.specs.declared.idl.Kind.TheVariants as kind
+use Rattle.gs_idl.specs.declared.idl.ParamKind.{ParamKind}
+use Rattle.gs_idl.specs.declared.idl.ParamKind.TheVariants as kind
 use Rattle.gs_tree.specs.Program.{Name, Term, num, lit, var, atoi, strcmp, neg, not_, two, Passed, Code, empty, block, set, choose, while, for, open_file, read_line, close_file, barrier, print, print_file, print_str, call, Codes, none, one, Program}
-use Rattle.gs_check.specs.Faults.{find_op}
 use Rattle.gs_form.specs.Named.{is_name}
 use Rattle.gs_form.specs.declared.program.Way.{Way}
 use Rattle.gs_form.specs.declared.program.Way.TheVariants.{Reads, Changes, Makes}
@@ -64,7 +63,7 @@ abbrev pub placed : Way → Option (List ℕ) → Option Place
 placed way None = None
 placed way (Some name) = Some (record { way = way; name = name })
 
-abbrev pub place_by : Kind → Way → Term → Option Place
+abbrev pub place_by : ParamKind → Way → Term → Option Place
 place_by kind.File way t = placed way (file_named t)
 place_by kind.Int way t = None
 place_by kind.Str way t = None
@@ -89,15 +88,16 @@ abbrev pub step_at : (idl_name program_name : List ℕ) → (op : List ℕ) → 
 step_at idl_name program_name op None = None
 step_at idl_name program_name op (Some places) = if is_sound idl_name program_name places then Some (record { op = op; places = places }) else None
 
-abbrev pub step_by : (idl_name program_name : List ℕ) → Option Op → (op : List ℕ) → List Passed → Option Step
-step_by idl_name program_name None op args = None
-step_by idl_name program_name (Some o) op args = step_at idl_name program_name op (places_for o.params args)
+-- a call of the operation at this place
+abbrev pub step_by : List Signature → (idl_name program_name : List ℕ) → (place : Option ℕ) → (op : List ℕ) → List Passed → Option Step
+step_by ops idl_name program_name None op args = None
+step_by ops idl_name program_name (Some place) op args = step_at idl_name program_name op (places_for (params_at ops place) args)
 
 -- a call of one of the operations
-abbrev pub step_for : List Op → (idl_name program_name : List ℕ) → Name → List Passed → Option Step
-step_for ops idl_name program_name op args = step_by idl_name program_name (find_op ops op.text) op.text args
+abbrev pub step_for : List Signature → (idl_name program_name : List ℕ) → Name → List Passed → Option Step
+step_for ops idl_name program_name op args = step_by ops idl_name program_name (op_place ops op.text) op.text args
 
-abbrev pub code_step : List Op → (idl_name program_name : List ℕ) → Code → Option Step
+abbrev pub code_step : List Signature → (idl_name program_name : List ℕ) → Code → Option Step
 code_step ops idl_name program_name (call op args) = step_for ops idl_name program_name op args
 code_step ops idl_name program_name (empty line) = None
 code_step ops idl_name program_name (block line body) = None
@@ -113,7 +113,7 @@ code_step ops idl_name program_name (print line format args) = None
 code_step ops idl_name program_name (print_file line handle format args) = None
 code_step ops idl_name program_name (print_str line to format args) = None
 
-abbrev pub steps_for : List Op → (idl_name program_name : List ℕ) → Codes → Option (List Step)
+abbrev pub steps_for : List Signature → (idl_name program_name : List ℕ) → Codes → Option (List Step)
 steps_for ops idl_name program_name none = Some []
 steps_for ops idl_name program_name (one code rest) = and_first (code_step ops idl_name program_name code) (steps_for ops idl_name program_name rest)
 

@@ -2,12 +2,11 @@
 ghost use Rattle.std.specs.Prelude.{◌≡◌, ◌<◌, ◌≤◌, ◌+◌, length, map, slice_get, Some, None, IfOk, IfSome, [], ◌==◌};
 ghost use Rattle.std.specs.List.{list_any};
 ghost use Rattle.std.specs.Option.{option_copied};
-ghost use Rattle.gs_idl.specs.Interface.{Op, Param};
+ghost use Rattle.gs_idl.specs.Interface.{Param, op_place, params_at};
 ghost use Rattle.gs_tree.specs.View.{term_of, passed_of, name_of, code_of, codes_of, program_of};
 ghost use Rattle.gs_form.specs.Straight.{way_of, writes, is_text, both_write, apart, is_sound, literal_of, file_named, place_for, places_for, step_by, step_for, code_step, steps_for, is_bare, straight_calls};
 
-use gs_check::place_of;
-use gs_idl::{Dir, Idl, Kind};
+use gs_idl::{Dir, Idl, ParamKind};
 use gs_tree::{Argument, Expr, Ident, Stmt, Tree};
 use gs_types::{Blob, Name, NoMemory, Sequence};
 use std::alloc::Global;
@@ -132,19 +131,19 @@ fn file_named(e: &Expr) -> Option<Name>
     }
 }
 
-fn place_for(dir: Dir, kind: Kind, argument: &Argument) -> Option<Place>
+fn place_for(dir: Dir, kind: ParamKind, argument: &Argument) -> Option<Place>
     ensures { (p : Param) → p.dir ≡ dir → p.kind ≡ kind → result ≡ place_for p (passed_of argument.now) }
 {
     match kind {
-        Kind::File => match file_named(&argument.e) {
+        ParamKind::File => match file_named(&argument.e) {
             Some(name) => Some(Place {
                 way: way_of(dir),
                 name,
             }),
             None => None,
         },
-        Kind::Int => None,
-        Kind::Str => None,
+        ParamKind::Int => None,
+        ParamKind::Str => None,
     }
 }
 
@@ -155,8 +154,9 @@ fn places_for(
     op: u8,
     args: &[Argument],
 ) -> Result<Option<Sequence<Place>>, NoMemory>
-    requires { (o : Op) × (slice_get idl.now.ops op ≡ Some o) × (length args.now ≡ length o.params) × (length args.now < 256) }
-    ensures { IfOk result (λ places. (o : Op) → slice_get idl.now.ops op ≡ Some o → places ≡ places_for o.params (map passed_of args.now)) }
+    requires room { length args.now ≡ length (params_at idl.now.ops op) }
+    requires few { length args.now < 256 }
+    ensures { IfOk result (λ places. places ≡ places_for (params_at idl.now.ops op) (map passed_of args.now)) }
 {
     let mut places = Sequence::new(alloc);
     for j in 0..args.len() {
@@ -185,7 +185,7 @@ fn step_for(
 ) -> Result<Option<Step>, NoMemory>
     ensures { IfOk result (λ step. step ≡ step_for idl.now.ops idl_name.now program_name.now (name_of op.now) (map passed_of args.now)) }
 {
-    let Some(i) = place_of(idl, &op.name) else {
+    let Some(i) = idl.find(&op.name) else {
         return Ok(None);
     };
     if args.len() != idl.param_count(i) as usize {
