@@ -1,10 +1,11 @@
 -- Facts of jobs in flight: one put behind, one taken out.
-use Rattle.std.proofs.Common.{◌≡◌, ◌<◌, ℕ, zero, suc, Bool, true, false, refl, sym, ap, subst, ◌∙◌, List, [], ◌∷◌, ◌++◌, length, arith, Option, Some, None, IsSome, eq-eqb, inl, inr, if◌then◌else◌}
+use Rattle.std.proofs.Common.{◌≡◌, ◌⊎◌, ◌<◌, ℕ, zero, suc, Bool, true, false, refl, sym, ap, subst, ◌∙◌, List, [], ◌∷◌, ◌++◌, length, arith, Option, Some, None, IsSome, is_some, eq-eqb, inl, inr, if◌then◌else◌}
 use Rattle.std.specs.Prelude.{◌==◌, not, cond, slice_get}
 use Rattle.std.proofs.lemmas.Bool.{ne_eqb}
 use Rattle.std.proofs.lemmas.Bool.Decides.{eqb_tells}
 use Rattle.gs_types.specs.declared.job.Job.{Job}
 use Rattle.gs_site.specs.Jobs.{job_at, without, number_of}
+use Rattle.gs_site.specs.Link.{IsBusy, IsIdle}
 
 -- a job put behind, whose task wasn't in flight
 pub job_push : (js : List Job) (j : Job) (m : ℕ) → job_at js j.n ≡ None → job_at (js ++ j ∷ []) m ≡ (if j.n == m then Some j else job_at js m)
@@ -63,3 +64,8 @@ job_here (x ∷ js) (suc i) lt = some_or (x.n == number_of (slice_get js i)) x (
 pub busy_some : (js : List Job) (n : ℕ) → IsSome (job_at js n) → 0 < length js
 busy_some [] n busy = absurd (cc)
 busy_some (x ∷ js) n busy = omega arith
+
+-- a job is in flight, or none is
+pub busy_or_idle : (js : List Job) → IsBusy (λ n. job_at js n) ⊎ IsIdle (λ n. job_at js n)
+busy_or_idle [] = inr (record { none = λ n. refl })
+busy_or_idle (x ∷ js) = let here = ap (λ (b : Bool). if b then Some x else job_at js x.n) (eq-eqb x.n x.n refl) in inl (x.n, ap is_some here)

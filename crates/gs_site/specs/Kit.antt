@@ -1,12 +1,13 @@
 -- The law of the kit: what its three operations on files give.
 use Rattle.std.specs.Prelude.{ℕ, ◌++◌, List, [], ◌∷◌, length, nat_le, nat_lt, pos, Option, Some, None, codes, bytes_eq, if◌then◌else◌}
 use Rattle.gs_types.specs.Job.{Meaning}
+use Rattle.gs_types.specs.declared.limits.TheConstants.{FILE_LIMIT}
 use Rattle.gs_types.specs.declared.value.Value.{Value}
 use Rattle.gs_types.specs.declared.value.Value.TheVariants.{Int, Str, File}
 
 -- a file as the one output, within the limit of a file
 abbrev pub file : List ℕ → Option (List Value)
-file bytes = if nat_le (length bytes) 16777216 then Some (File bytes ∷ []) else None
+file bytes = if nat_le (length bytes) FILE_LIMIT then Some (File bytes ∷ []) else None
 
 -- a number as the one output, within 64 bits
 abbrev pub number : ℕ → Option (List Value)

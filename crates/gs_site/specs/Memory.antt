@@ -1,15 +1,18 @@
 -- What a link in memory holds and tells.
-use Rattle.std.specs.Prelude.{◌≡◌, ℕ, ◌+◌, ◌-◌, ◌^◌, min, Bool, true, List, drop, Option, Some, None}
+use Rattle.std.specs.Prelude.{◌≡◌, ℕ, Bool, true, List, [], ◌∷◌, ◌++◌, drop, Option, Some, None, refl}
+use Rattle.std.proofs.Common.{sym, ◌∙◌}
 use Rattle.gs_types.specs.Job.{Meaning, Gives}
-use Rattle.gs_types.specs.History.{History, job_in}
+use Rattle.gs_types.specs.Counts.{up}
+use Rattle.gs_types.specs.History.{History}
 use Rattle.gs_types.specs.declared.value.Value.{Value}
 use Rattle.gs_types.specs.declared.job.Job.{Job}
 use Rattle.gs_site.specs.declared.link.Event.{Event}
 use Rattle.gs_site.specs.declared.link.Event.TheVariants.{Finished, Failed}
 use Rattle.gs_site.specs.declared.turn.Turn.{Turn}
 use Rattle.gs_site.specs.declared.memory.MemLink.{MemLink}
-use Rattle.gs_site.specs.Link.{Flying}
-use Rattle.gs_site.specs.Jobs.{job_at}
+use Rattle.gs_site.specs.Link.{Flying, task_of}
+use Rattle.gs_site.specs.Jobs.{job_at, without, picked}
+use Rattle.gs_site.specs.Turns.{turn_now}
 
 abbrev pub law_of : {L : Type 0} → MemLink L → L
 law_of l = l.law
@@ -28,10 +31,16 @@ jobs_of l n = job_at l.desk.jobs n
 abbrev pub faults_of : {L : Type 0} → MemLink L → ℕ
 faults_of l = l.faults
 
--- the history is this one, and the jobs in flight are those that it tells of
-pub record IsTold {L : Type 0} (l : MemLink L) (h : History) : Type 0 where
-  pub is : h ≡ l.desk.told
-  pub jobs : (n : ℕ) → job_at l.desk.jobs n ≡ job_in h n
+-- the history is this one
+abbrev pub IsTold : {L : Type 0} → MemLink L → History → Type 0
+IsTold l h = h ≡ l.desk.told
+
+-- there is one such history
+pub told_one : (h g all : History) → h ≡ all → g ≡ all → h ≡ g
+told_one h g all a b = a ∙ sym b
+
+pub told_all : (all : History) → (g : History) × (g ≡ all)
+told_all all = (all, refl)
 
 -- how a job ends: with what the law gives for it, where the turn is well and that fits the job's places, and else in a failure
 abbrev pub EndsBy : Meaning → Bool → Job → Event → Type 0
@@ -46,4 +55,18 @@ MayGive law job None = (outs : List Value) → Gives law job.op job.args outs �
 -- the count of faults after an end
 abbrev pub counted : ℕ → Event → ℕ
 counted faults (Finished n outs) = faults
-counted faults (Failed n) = min (faults + 1) (2 ^ 64 - 1)
+counted faults (Failed n) = up faults
+
+-- a job was taken: it is the last of those in flight, and script and count stay
+pub record TakesJob {L : Type 0} (old new : MemLink L) (job : Job) : Type 0 where
+  pub jobs : started_jobs new ≡ started_jobs old ++ job ∷ []
+  pub script : script_of new ≡ script_of old
+  pub count : faults_of new ≡ faults_of old
+
+-- the first turn of the script was taken: the job that it picks ended as it says and as the law says
+pub record TakesTurn {L : Type 0} (law : Meaning) (old new : MemLink L) (e : Event) : Type 0 where
+  pub picks : task_of e ≡ picked (started_jobs old) (turn_now (script_of old)).pick
+  pub ends : (job : Job) → jobs_of old (task_of e) ≡ Some job → EndsBy law (turn_now (script_of old)).well job e
+  pub jobs : started_jobs new ≡ without (task_of e) (started_jobs old)
+  pub script : script_of new ≡ drop 1 (script_of old)
+  pub count : faults_of new ≡ counted (faults_of old) e

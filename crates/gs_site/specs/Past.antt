@@ -1,6 +1,6 @@
 -- What a link in memory shows of its history.
 use Rattle.std.specs.Prelude.{List, [], ◌∷◌, ◌++◌}
-use Rattle.gs_types.specs.History.{LinkEvent, History, started, refused, finished, failed, abandoned}
+use Rattle.gs_types.specs.History.{LinkEvent, History, noted, started, refused, finished, failed, abandoned}
 use Rattle.gs_site.specs.declared.link.Event.{Event}
 use Rattle.gs_site.specs.declared.link.Event.TheVariants as ends
 use Rattle.gs_site.specs.declared.past.Past.{Past}
@@ -9,8 +9,9 @@ use Rattle.gs_site.specs.declared.past.Told.{Told}
 use Rattle.gs_site.specs.declared.past.Told.TheVariants as t
 use Rattle.gs_site.specs.declared.past.Telling.{Telling, Start, Then'}
 
--- an event without its job or its outputs
+-- an event without its job or its outputs. A link tells no noted outputs, which would show as a finish
 abbrev pub past_of : LinkEvent → Past
+past_of (noted n outs) = p.Finished n
 past_of (started n worker job) = p.Started n worker
 past_of (refused n worker) = p.Refused n worker
 past_of (finished n outs) = p.Finished n

@@ -3,8 +3,7 @@ ghost use Rattle.std.specs.Prelude.{◌≡◌, ◌↔◌, IsTrue};
 ghost use Rattle.gs_types.specs.Job.{Fit};
 ghost use Rattle.gs_site.specs.Fits.{gives, Suits};
 
-use crate::limits::FILE_LIMIT;
-use gs_types::{Arg, Value};
+use gs_types::{Arg, FILE_LIMIT, STRING_LIMIT, Value};
 
 // Whether a place gives an output.
 fn gives(arg: &Arg) -> bool
@@ -22,7 +21,7 @@ fn suits(arg: &Arg, value: &Value) -> bool
             bytes.bytes().len() <= FILE_LIMIT
         }
         (Arg::OutInt, Value::Int { .. }) => true,
-        (Arg::OutStr, Value::Str { s }) => s.bytes().len() <= 1024,
+        (Arg::OutStr, Value::Str { s }) => s.bytes().len() <= STRING_LIMIT,
         _ => false,
     }
 }

@@ -2,8 +2,7 @@
 ghost use Rattle.std.specs.Prelude.{◌≡◌, [], ◌∷◌, option_map, IfOk};
 ghost use Rattle.gs_site.specs.Kit.{file, joined, grown, counted, kit};
 
-use crate::limits::FILE_LIMIT;
-use gs_types::{Blob, Law, NoMemory, Value};
+use gs_types::{Blob, FILE_LIMIT, Law, NoMemory, Value};
 use std::alloc::Global;
 
 /// The law of three operations: `join` gives a file followed by another, `grow` a file followed by a

@@ -5,7 +5,6 @@ mod copies;
 mod desk;
 mod fit;
 mod kit;
-mod limits;
 mod link;
 mod marks;
 mod memory;

@@ -1,9 +1,7 @@
 // What runs tasks, as everything in `gs` sees it.
-ghost use Rattle.std.specs.Prelude.{◌≡◌, ◌≤◌, ℕ, ◌∷◌, length, Some, None, IfOk, OnOk, OnErr, IsErrOf};
-ghost use Rattle.gs_types.specs.Counts.{Rises};
-ghost use Rattle.gs_types.specs.History.{History, abandoned};
-ghost use Rattle.gs_types.specs.declared.job.Job.{Job};
-ghost use Rattle.gs_site.specs.Link.{Flying, IsIdle, IsBusy, SameJobs, SetsJob, after_start, task_of, after_event, Ended, IsByLaw};
+ghost use Rattle.std.specs.Prelude.{◌≡◌, ◌≤◌, ℕ, length, None};
+ghost use Rattle.gs_types.specs.History.{History};
+ghost use Rattle.gs_site.specs.Link.{Flying, IsIdle, IsBusy, HasStarted, TellsStart, HasEnded, TellsEnd, EndsByLaw, Abandons};
 
 use gs_types::{Job, Law, NoMemory, Sequence, Value};
 use std::alloc::Global;
@@ -38,36 +36,37 @@ pub trait Link {
 
     ghost faults: { Self → ℕ };
 
-    /// Starts a task that isn't in flight. `Failed` only where the count of faults rose.
+    /// Starts a task that isn't in flight. `Failed` only where the count of faults rose. After `NoMemory`
+    /// nothing has changed.
     fn start(&mut self, alloc: Global, job: &Job) -> Result<(), StartErr>
-        requires { jobs self.old job.now.n ≡ None }
+        requires idle { jobs self.old job.now.n ≡ None }
         ensures law { law self.new ≡ law self.old }
-        ensures flies { OnOk result (SetsJob job.now.n (Some job.now) (jobs self.old) (jobs self.new)) }
-        ensures stays { OnErr result (SameJobs (jobs self.old) (jobs self.new)) }
-        ensures told { (past : History) → tells self.old past → tells self.new (after_start job.now result past) }
-        ensures rise { faults self.old ≤ faults self.new }
-        ensures cause { IsErrOf result StartErr.Failed → Rises (faults self.old) (faults self.new) };
+        ensures started { HasStarted jobs faults self.old self.new job.now result }
+        ensures told { TellsStart tells self.old self.new job.now result };
 
-    /// Waits for the end of a task in flight. After want of memory nothing has changed.
+    /// Waits for the end of a task in flight. `Failed` only where the count of faults rose. After want of
+    /// memory nothing has changed.
     fn next(&mut self, alloc: Global) -> Result<Event, NoMemory>
-        requires { IsBusy (jobs self.old) }
+        requires busy { IsBusy (jobs self.old) }
         ensures law { law self.new ≡ law self.old }
-        ensures ended { IfOk result (λ e. (job : Job) × (jobs self.old (task_of e) ≡ Some job) × Ended job (faults self.old) (faults self.new) e × ((past : History) → tells self.old past → IsByLaw (Self.L.meaning (law self.old)) job e)) }
-        ensures flies { IfOk result (λ e. SetsJob (task_of e) None (jobs self.old) (jobs self.new)) }
-        ensures stays { OnErr result (SameJobs (jobs self.old) (jobs self.new)) }
-        ensures told { (past : History) → tells self.old past → IfOk result (λ e. tells self.new (after_event e past)) }
-        ensures untold { (past : History) → tells self.old past → OnErr result (tells self.new past) }
-        ensures rise { faults self.old ≤ faults self.new };
+        ensures ended { HasEnded jobs faults self.old self.new result }
+        ensures told { TellsEnd tells self.old self.new result }
+        ensures by_law { EndsByLaw tells jobs Self.L.meaning law self.old result };
 
-    /// Ends all jobs in flight without an answer. Without one nothing changes.
+    /// Ends all jobs in flight without an answer. Without one nothing changes. It takes no memory.
     fn abandon(&mut self)
         ensures law { law self.new ≡ law self.old }
         ensures idle { IsIdle (jobs self.new) }
-        ensures told { (past : History) → tells self.old past → IsBusy (jobs self.old) → tells self.new (abandoned ∷ past) }
-        ensures untold { (past : History) → tells self.old past → IsIdle (jobs self.old) → tells self.new past }
+        ensures abandons { Abandons tells jobs faults self.old self.new }
         ensures rise { faults self.old ≤ faults self.new };
 
     /// The length of the history, where it is told.
     fn events(&self) -> u64
         ensures { (past : History) → tells self.now past → result ≡ length past };
+
+    /// What is told of a link at a moment is one history.
+    ghost one: { (l : Self) (h g : History) → tells l h → tells l g → h ≡ g };
+
+    /// A link that tells a history tells one after any call too.
+    ghost all: { (l m : Self) (h : History) → tells l h → (g : History) × tells m g };
 }

@@ -1,13 +1,9 @@
 // A link in memory.
-ghost use Rattle.std.specs.Prelude.{◌≡◌, ◌≤◌, [], ◌∷◌, ◌++◌, drop, length, Some, None, IfOk, OnOk, OnErr, IsErrOf};
-ghost use Rattle.gs_types.specs.Counts.{Rises};
-ghost use Rattle.gs_types.specs.History.{History, abandoned};
-ghost use Rattle.gs_types.specs.declared.job.Job.{Job};
-ghost use Rattle.gs_site.specs.Jobs.{without, picked};
-ghost use Rattle.gs_site.specs.Link.{IsIdle, IsBusy, SameJobs, SetsJob, after_start, task_of, after_event, Ended, IsByLaw};
-ghost use Rattle.gs_site.specs.Memory.{law_of, script_of, started_jobs, jobs_of, faults_of, IsTold, EndsBy, counted, MayGive};
+ghost use Rattle.std.specs.Prelude.{◌≡◌, ◌≤◌, [], length, Some, None, IfOk, OnOk, OnErr, IsErrOf};
+ghost use Rattle.gs_types.specs.History.{History};
+ghost use Rattle.gs_site.specs.Link.{IsIdle, IsBusy, task_of, HasStarted, TellsStart, HasEnded, TellsEnd, EndsByLaw, Abandons};
+ghost use Rattle.gs_site.specs.Memory.{law_of, script_of, started_jobs, jobs_of, faults_of, IsTold, told_one, told_all, EndsBy, counted, MayGive, TakesJob, TakesTurn};
 ghost use Rattle.gs_site.specs.Past.{shown};
-ghost use Rattle.gs_site.specs.Turns.{turn_now};
 
 use crate::copies::inputs_of;
 use crate::desk::Desk;
@@ -103,17 +99,12 @@ impl<L: Law> Link for MemLink<L> {
     ghost faults = { faults_of };
 
     fn start(&mut self, alloc: Global, job: &Job) -> Result<(), StartErr>
-        requires { jobs_of self.old job.now.n ≡ None }
+        requires idle { jobs_of self.old job.now.n ≡ None }
         ensures law { law_of self.new ≡ law_of self.old }
-        ensures flies { OnOk result (SetsJob job.now.n (Some job.now) (jobs_of self.old) (jobs_of self.new)) }
-        ensures stays { OnErr result (SameJobs (jobs_of self.old) (jobs_of self.new)) }
-        ensures told { (past : History) → IsTold self.old past → IsTold self.new (after_start job.now result past) }
-        ensures rise { faults_of self.old ≤ faults_of self.new }
-        ensures cause { IsErrOf result StartErr.Failed → Rises (faults_of self.old) (faults_of self.new) }
+        ensures started { HasStarted jobs_of faults_of self.old self.new job.now result }
+        ensures told { TellsStart IsTold self.old self.new job.now result }
         ensures never { IsErrOf result StartErr.Failed → ⊥ }
-        ensures jobs { OnOk result (started_jobs self.new ≡ started_jobs self.old ++ job.now ∷ []) }
-        ensures script { script_of self.new ≡ script_of self.old }
-        ensures count { faults_of self.new ≡ faults_of self.old }
+        ensures takes { OnOk result (TakesJob self.old self.new job.now) }
         ensures unchanged { OnErr result (self.new ≡ self.old) }
     {
         match self.desk.start(alloc, job) {
@@ -123,19 +114,12 @@ impl<L: Law> Link for MemLink<L> {
     }
 
     fn next(&mut self, alloc: Global) -> Result<Event, NoMemory>
-        requires { IsBusy (jobs_of self.old) }
+        requires busy { IsBusy (jobs_of self.old) }
         ensures law { law_of self.new ≡ law_of self.old }
-        ensures ended { IfOk result (λ e. (job : Job) × (jobs_of self.old (task_of e) ≡ Some job) × Ended job (faults_of self.old) (faults_of self.new) e × ((past : History) → IsTold self.old past → IsByLaw (L.meaning (law_of self.old)) job e)) }
-        ensures flies { IfOk result (λ e. SetsJob (task_of e) None (jobs_of self.old) (jobs_of self.new)) }
-        ensures stays { OnErr result (SameJobs (jobs_of self.old) (jobs_of self.new)) }
-        ensures told { (past : History) → IsTold self.old past → IfOk result (λ e. IsTold self.new (after_event e past)) }
-        ensures untold { (past : History) → IsTold self.old past → OnErr result (IsTold self.new past) }
-        ensures rise { faults_of self.old ≤ faults_of self.new }
-        ensures picks { IfOk result (λ e. task_of e ≡ picked (started_jobs self.old) (turn_now (script_of self.old)).pick) }
-        ensures ends { IfOk result (λ e. (job : Job) → jobs_of self.old (task_of e) ≡ Some job → EndsBy (L.meaning (law_of self.old)) (turn_now (script_of self.old)).well job e) }
-        ensures jobs { IfOk result (λ e. started_jobs self.new ≡ without (task_of e) (started_jobs self.old)) }
-        ensures script { OnOk result (script_of self.new ≡ drop 1 (script_of self.old)) }
-        ensures count { IfOk result (λ e. faults_of self.new ≡ counted (faults_of self.old) e) }
+        ensures ended { HasEnded jobs_of faults_of self.old self.new result }
+        ensures told { TellsEnd IsTold self.old self.new result }
+        ensures by_law { EndsByLaw IsTold jobs_of L.meaning law_of self.old result }
+        ensures turn { IfOk result (TakesTurn (L.meaning (law_of self.old)) self.old self.new) }
         ensures unchanged { OnErr result (self.new ≡ self.old) }
     {
         let turn = turn_at(&self.script, self.turn);
@@ -150,8 +134,7 @@ impl<L: Law> Link for MemLink<L> {
     fn abandon(&mut self)
         ensures law { law_of self.new ≡ law_of self.old }
         ensures idle { IsIdle (jobs_of self.new) }
-        ensures told { (past : History) → IsTold self.old past → IsBusy (jobs_of self.old) → IsTold self.new (abandoned ∷ past) }
-        ensures untold { (past : History) → IsTold self.old past → IsIdle (jobs_of self.old) → IsTold self.new past }
+        ensures abandons { Abandons IsTold jobs_of faults_of self.old self.new }
         ensures rise { faults_of self.old ≤ faults_of self.new }
         ensures jobs { started_jobs self.new ≡ [] }
         ensures script { script_of self.new ≡ script_of self.old }
@@ -165,4 +148,8 @@ impl<L: Law> Link for MemLink<L> {
     {
         self.desk.past().len() as u64
     }
+
+    ghost one = { λ l h g a b. told_one h g l.desk.told a b };
+
+    ghost all = { λ l m h a. told_all m.desk.told };
 }

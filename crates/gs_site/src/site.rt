@@ -1,10 +1,8 @@
 // A disk and a link together.
-ghost use Rattle.std.specs.Prelude.{◌≡◌, ◌≤◌, ℕ, [], ◌∷◌, length, Some, None, IfOk, OnOk, OnErr, IsErrOf};
+ghost use Rattle.std.specs.Prelude.{◌≡◌, ◌≤◌, ℕ, [], ◌∷◌, length, None};
 ghost use Rattle.std.specs.Borrow.{sem};
-ghost use Rattle.gs_types.specs.Counts.{Rises};
-ghost use Rattle.gs_types.specs.History.{History, abandoned};
-ghost use Rattle.gs_types.specs.declared.job.Job.{Job};
-ghost use Rattle.gs_site.specs.Link.{IsIdle, IsBusy, SameJobs, SetsJob, after_start, task_of, after_event, Ended, IsByLaw};
+ghost use Rattle.gs_types.specs.History.{History};
+ghost use Rattle.gs_site.specs.Link.{IsIdle, IsBusy, HasStarted, TellsStart, HasEnded, TellsEnd, EndsByLaw, Abandons};
 ghost use Rattle.gs_site.specs.Lending.{lends_disk};
 ghost use Rattle.gs_site.specs.Site.{disk_of, link_of, mark_of, marks_of};
 
@@ -75,47 +73,42 @@ impl<D: Disk, K: Link> Site<D, K> {
     }
 
     /// Starts a task that isn't in flight on the link. `Failed` only where the link's count of faults rose.
+    /// After `NoMemory` nothing has changed.
     pub fn start(&mut self, alloc: Global, job: &Job) -> Result<(), StartErr>
-        requires { K.jobs (link_of self.old) job.now.n ≡ None }
+        requires idle { K.jobs (link_of self.old) job.now.n ≡ None }
         ensures disk { disk_of self.new ≡ disk_of self.old }
         ensures mark { mark_of self.new ≡ mark_of self.old }
         ensures marks { marks_of self.new ≡ marks_of self.old }
         ensures law { K.law (link_of self.new) ≡ K.law (link_of self.old) }
-        ensures flies { OnOk result (SetsJob job.now.n (Some job.now) (K.jobs (link_of self.old)) (K.jobs (link_of self.new))) }
-        ensures stays { OnErr result (SameJobs (K.jobs (link_of self.old)) (K.jobs (link_of self.new))) }
-        ensures told { (past : History) → K.tells (link_of self.old) past → K.tells (link_of self.new) (after_start job.now result past) }
-        ensures rise { K.faults (link_of self.old) ≤ K.faults (link_of self.new) }
-        ensures cause { IsErrOf result StartErr.Failed → Rises (K.faults (link_of self.old)) (K.faults (link_of self.new)) }
+        ensures started { HasStarted K.jobs K.faults (link_of self.old) (link_of self.new) job.now result }
+        ensures told { TellsStart K.tells (link_of self.old) (link_of self.new) job.now result }
     {
         self.link.start(alloc, job)
     }
 
-    /// Waits for the end of a task in flight. After want of memory nothing has changed.
+    /// Waits for the end of a task in flight. `Failed` only where the link's count of faults rose. After
+    /// want of memory nothing has changed.
     pub fn next(&mut self, alloc: Global) -> Result<Event, NoMemory>
-        requires { IsBusy (K.jobs (link_of self.old)) }
+        requires busy { IsBusy (K.jobs (link_of self.old)) }
         ensures disk { disk_of self.new ≡ disk_of self.old }
         ensures mark { mark_of self.new ≡ mark_of self.old }
         ensures marks { marks_of self.new ≡ marks_of self.old }
         ensures law { K.law (link_of self.new) ≡ K.law (link_of self.old) }
-        ensures ended { IfOk result (λ e. (job : Job) × (K.jobs (link_of self.old) (task_of e) ≡ Some job) × Ended job (K.faults (link_of self.old)) (K.faults (link_of self.new)) e × ((past : History) → K.tells (link_of self.old) past → IsByLaw (K.L.meaning (K.law (link_of self.old))) job e)) }
-        ensures flies { IfOk result (λ e. SetsJob (task_of e) None (K.jobs (link_of self.old)) (K.jobs (link_of self.new))) }
-        ensures stays { OnErr result (SameJobs (K.jobs (link_of self.old)) (K.jobs (link_of self.new))) }
-        ensures told { (past : History) → K.tells (link_of self.old) past → IfOk result (λ e. K.tells (link_of self.new) (after_event e past)) }
-        ensures untold { (past : History) → K.tells (link_of self.old) past → OnErr result (K.tells (link_of self.new) past) }
-        ensures rise { K.faults (link_of self.old) ≤ K.faults (link_of self.new) }
+        ensures ended { HasEnded K.jobs K.faults (link_of self.old) (link_of self.new) result }
+        ensures told { TellsEnd K.tells (link_of self.old) (link_of self.new) result }
+        ensures by_law { EndsByLaw K.tells K.jobs K.L.meaning K.law (link_of self.old) result }
     {
         self.link.next(alloc)
     }
 
-    /// Ends all jobs in flight without an answer. Without one nothing changes.
+    /// Ends all jobs in flight without an answer. Without one nothing changes. It takes no memory.
     pub fn abandon(&mut self)
         ensures disk { disk_of self.new ≡ disk_of self.old }
         ensures mark { mark_of self.new ≡ mark_of self.old }
         ensures marks { marks_of self.new ≡ marks_of self.old }
         ensures law { K.law (link_of self.new) ≡ K.law (link_of self.old) }
         ensures idle { IsIdle (K.jobs (link_of self.new)) }
-        ensures told { (past : History) → K.tells (link_of self.old) past → IsBusy (K.jobs (link_of self.old)) → K.tells (link_of self.new) (abandoned ∷ past) }
-        ensures untold { (past : History) → K.tells (link_of self.old) past → IsIdle (K.jobs (link_of self.old)) → K.tells (link_of self.new) past }
+        ensures abandons { Abandons K.tells K.jobs K.faults (link_of self.old) (link_of self.new) }
         ensures rise { K.faults (link_of self.old) ≤ K.faults (link_of self.new) }
     {
         self.link.abandon();

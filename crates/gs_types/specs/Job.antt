@@ -1,6 +1,7 @@
 -- What a task takes and gives.
 use Rattle.std.specs.Prelude.{◌≡◌, ℕ, ◌≤◌, List, [], ◌∷◌, length, Option, Some}
 use Rattle.gs_types.specs.Bytes.{IsText}
+use Rattle.gs_types.specs.declared.limits.TheConstants.{FILE_LIMIT}
 use Rattle.gs_types.specs.declared.value.Value.{Value}
 use Rattle.gs_types.specs.declared.value.Value.TheVariants.{Int, Str, File}
 use Rattle.gs_types.specs.declared.job.Arg.{Arg}
@@ -17,7 +18,7 @@ inputs (OutStr ∷ args) = inputs args
 
 -- a file's bytes within the limit of a file
 abbrev pub IsFile : Value → Type 0
-IsFile (File bytes) = length bytes ≤ 16777216
+IsFile (File bytes) = length bytes ≤ FILE_LIMIT
 IsFile _ = ⊥
 
 abbrev pub IsInt : Value → Type 0

@@ -1,5 +1,6 @@
 // Bytes.
-ghost use Rattle.std.specs.Prelude.{◌≡◌, ℕ, List, ◌++◌, OnOk, OnErr, IfOk};
+ghost use Rattle.std.specs.Prelude.{◌≡◌, ◌++◌, OnOk, OnErr, IfOk};
+ghost use Rattle.gs_types.specs.Bytes.{IsBytes};
 
 use crate::NoMemory;
 use std::alloc::Global;
@@ -12,9 +13,14 @@ pub struct Blob {
 }
 
 impl Model for Blob {
+    ghost use Rattle.std.specs.Prelude.{ℕ, List};
+    ghost use Rattle.gs_types.specs.Bytes.{IsBytes};
+
     ghost Value = { List ℕ };
 
     ghost view = { λ b. b.items.items };
+
+    ghost invariant = { λ b. IsBytes b.items.items };
 }
 
 impl Blob {
@@ -34,8 +40,10 @@ impl Blob {
         Blob { items }
     }
 
+    /// The bytes, each below 256.
     pub fn bytes(&self) -> &[u8]
-        ensures { result.now ≡ self.now }
+        ensures value { result.now ≡ self.now }
+        ensures bytes { IsBytes self.now }
     {
         self.items.as_slice()
     }

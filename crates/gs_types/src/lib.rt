@@ -5,6 +5,8 @@ mod action;
 mod blob;
 mod job;
 mod law;
+mod laws;
+mod limits;
 mod mem_sink;
 mod memory;
 mod name;
@@ -13,6 +15,8 @@ mod sequence;
 mod settings;
 mod sink;
 mod std_sink;
+#[cfg(test)]
+mod tests;
 mod text;
 mod value;
 
@@ -20,6 +24,13 @@ pub use action::Action;
 pub use blob::Blob;
 pub use job::{Arg, Job};
 pub use law::{Law, NoLaw};
+pub use laws::{refused_is_started_and_failed, since_is_what_came_after};
+pub use limits::{
+    ACTION_LIMIT, FILE_LIMIT, FUEL_DEFAULT, FUEL_LIMIT, HANDLE_LIMIT, NAME_LENGTH, NAME_LIMIT,
+    OPERATION_LIMIT, PARAMETER_LIMIT, PRINTED_LIMIT, SLOT_LIMIT, STRING_LIMIT, TASK_LIMIT,
+    TEXT_LIMIT, TRIES_DEFAULT, TRIES_LIMIT, VARIABLE_LIMIT, WINDOW_DEFAULT, WINDOW_LIMIT,
+    WORKER_FAILURES, WORKER_LIMIT,
+};
 pub use mem_sink::MemSink;
 pub use memory::NoMemory;
 pub use name::{BadName, Name};

@@ -49,8 +49,8 @@ impl MemSink {
 }
 
 impl Sink for MemSink {
-    ghost use Rattle.std.specs.Prelude.{◌≡◌, ◌+◌, ◌-◌, ◌^◌, ◌<◌, ◌≤◌, ⊤, length, min, take, ◌++◌, is_err, IfOk, OnErr};
-    ghost use Rattle.gs_types.specs.Counts.{Rises};
+    ghost use Rattle.std.specs.Prelude.{◌≡◌, ◌+◌, ◌-◌, ◌^◌, ◌<◌, ◌≤◌, ⊤, length, min, take, ◌++◌, is_err, IfOk, IsErr};
+    ghost use Rattle.gs_types.specs.Counts.{Caused};
     ghost use Rattle.gs_types.specs.Sink.{after_write, is_refused};
 
     ghost tells = { ⊤ };
@@ -63,8 +63,7 @@ impl Sink for MemSink {
     fn write(&mut self, bytes: &[u8]) -> Result<usize, SinkFailed>
         ensures part { IfOk result (λ n. (n ≤ length bytes.now) × (0 < length bytes.now → 0 < n)) }
         ensures written { ⊤ → self.new.bytes ≡ after_write self.old.bytes bytes.now result }
-        ensures rise { self.old.faults ≤ self.new.faults }
-        ensures cause { OnErr result (Rises self.old.faults self.new.faults) }
+        ensures cause { Caused (IsErr result) self.old.faults self.new.faults }
         ensures refused { is_err result ≡ is_refused self.old bytes.now }
         ensures amount { IfOk result (λ n. (n ≡ min (length bytes.now) (self.old.room - length self.old.bytes)) × (self.new.faults ≡ self.old.faults)) }
         ensures state { (self.new.room ≡ self.old.room) × (self.new.failing ≡ self.old.failing) × (self.new.calls ≡ min (self.old.calls + 1) (2 ^ 64 - 1)) }

@@ -2,7 +2,7 @@
 use crate::{Blob, Name, Text};
 
 /// Which contents of a file: the user's own, an output of a task, or what the main program closed.
-#[derive(Drop)]
+#[derive(Debug, Drop)]
 pub enum Version {
     Original { name: Name },
     Out { n: u32, place: u8 },
@@ -32,7 +32,7 @@ pub struct VarNote {
 }
 
 /// The last version of a written name, which is told by its number, with its length in bytes.
-#[derive(Drop)]
+#[derive(Debug, Drop)]
 pub struct FinalNote {
     pub name: u32,
     pub version: Version,

@@ -1,6 +1,6 @@
 // Where text goes.
-ghost use Rattle.std.specs.Prelude.{◌≡◌, ℕ, ◌<◌, ◌≤◌, List, ◌++◌, length, take, IfOk, OnOk, OnErr};
-ghost use Rattle.gs_types.specs.Counts.{Rises};
+ghost use Rattle.std.specs.Prelude.{◌≡◌, ℕ, ◌<◌, ◌≤◌, List, ◌++◌, length, take, IfOk, OnOk, IsErr};
+ghost use Rattle.gs_types.specs.Counts.{Caused};
 ghost use Rattle.gs_types.specs.Sink.{after_write};
 
 /// A sink took nothing of a piece.
@@ -21,8 +21,7 @@ pub trait Sink {
     fn write(&mut self, bytes: &[u8]) -> Result<usize, SinkFailed>
         ensures part { IfOk result (λ n. (n ≤ length bytes.now) × (0 < length bytes.now → 0 < n)) }
         ensures written { tells → written self.new ≡ after_write (written self.old) bytes.now result }
-        ensures rise { faults self.old ≤ faults self.new }
-        ensures cause { OnErr result (Rises (faults self.old) (faults self.new)) };
+        ensures cause { Caused (IsErr result) (faults self.old) (faults self.new) };
 }
 
 /// Writes all bytes, piece by piece. `SinkFailed` only where the count of faults rose; then a first part
@@ -30,8 +29,7 @@ pub trait Sink {
 pub fn put_all<S: Sink>(sink: &mut S, bytes: &[u8]) -> Result<(), SinkFailed>
     ensures all { S.tells → OnOk result (S.written sink.new ≡ S.written sink.old ++ bytes.now) }
     ensures first_part { S.tells → ((k : ℕ) × (k ≤ length bytes.now) × (S.written sink.new ≡ S.written sink.old ++ take k bytes.now)) }
-    ensures rise { S.faults sink.old ≤ S.faults sink.new }
-    ensures cause { OnErr result (Rises (S.faults sink.old) (S.faults sink.new)) }
+    ensures cause { Caused (IsErr result) (S.faults sink.old) (S.faults sink.new) }
 {
     let mut done = 0;
     while done < bytes.len() {

@@ -1,6 +1,6 @@
 // Standard output and error: the edge that is trusted.
 ghost use Rattle.std.specs.Prelude.{◌≡◌, ◌≤◌};
-ghost use Rattle.gs_types.specs.Counts.{Rises};
+ghost use Rattle.gs_types.specs.Counts.{up};
 
 use crate::{Sink, SinkFailed};
 use std::io::Write;
@@ -21,8 +21,8 @@ impl<W: Write + Drop> StdSink<W> {
     }
 
     fn fail(&mut self) -> SinkFailed
+        ensures count { self.new.faults ≡ up self.old.faults }
         ensures rise { self.old.faults ≤ self.new.faults }
-        ensures cause { Rises self.old.faults self.new.faults }
     {
         self.faults = self.faults.saturating_add(1);
         SinkFailed

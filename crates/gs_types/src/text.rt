@@ -2,7 +2,7 @@
 ghost use Rattle.std.specs.Prelude.{◌≡◌, IfOk, MatchResult};
 ghost use Rattle.gs_types.specs.Bytes.{is_text_byte};
 
-use crate::NoMemory;
+use crate::{NoMemory, STRING_LIMIT};
 use std::alloc::Global;
 use std::marker::Model;
 
@@ -39,7 +39,7 @@ fn is_text_byte(b: u8) -> bool
 }
 
 impl Text {
-    ghost use Rattle.gs_types.specs.Bytes.{IsText};
+    ghost use Rattle.gs_types.specs.Bytes.{IsBytes, IsText};
     ghost use Rattle.gs_types.specs.Text.{IsTextErr};
 
     /// Reads a string. `Long` exactly where there are more than 1,024 bytes; else `BadByte` exactly at
@@ -47,7 +47,7 @@ impl Text {
     pub fn read(alloc: Global, bytes: &[u8]) -> Result<Text, TextErr>
         ensures { MatchResult result (λ t. (t ≡ bytes.now) × IsText bytes.now) (λ e. IsTextErr bytes.now e) }
     {
-        if bytes.len() > 1024 {
+        if bytes.len() > STRING_LIMIT {
             return Err(TextErr::Long { len: bytes.len() });
         }
         for (at, b) in bytes.iter().enumerate() {
@@ -64,6 +64,7 @@ impl Text {
     pub fn bytes(&self) -> &[u8]
         ensures value { result.now ≡ self.now }
         ensures text { IsText self.now }
+        ensures bytes { IsBytes self.now }
     {
         self.items.as_slice()
     }

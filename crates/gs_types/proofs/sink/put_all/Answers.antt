@@ -11,6 +11,6 @@ grown old mid new bytes done n was is =
 pub loop-done-preserved : goal.loop-done-preserved
 loop-done-preserved g c = record {
   within = let part = c.in_ok-done.ensures.part.0 in omega (arith, length-drop c.loop-done.done c.args.bytes.now, take_all (length c.args.bytes.now - c.loop-done.done) (drop c.loop-done.done c.args.bytes.now) (omega (arith, length-drop c.loop-done.done c.args.bytes.now)));
-  rise = omega (arith, c.loop-done.invariant.rise, c.write.ensures.rise);
+  rise = omega (arith, c.loop-done.invariant.rise, c.write.ensures.cause.rise);
   written = λ told. grown _ _ _ c.args.bytes.now c.loop-done.done c.in_ok-done.field-0 (c.loop-done.invariant.written told) (c.in_ok-done.ensures.written told);
 }

@@ -6,4 +6,4 @@ use Rattle.gs_site.proofs.memory.MemLinkLink.events.Goals as goal
 
 pub returns : goal.returns
 returns g c = λ past told.
-    ap (λ (xs : List Past). length xs) c.past.ensures ∙ length_shown c.args.self.now.desk.told ∙ ap (λ (h : History). length h) (sym told.is)
+    ap (λ (xs : List Past). length xs) c.past.ensures ∙ length_shown c.args.self.now.desk.told ∙ ap (λ (h : History). length h) (sym told)
