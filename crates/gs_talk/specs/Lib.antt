@@ -1,0 +1,5 @@
+pub mod Terms
+pub mod Values
+pub mod Texts
+pub mod Talk
+pub mod Seq
