@@ -13,3 +13,7 @@ ReadsTo bytes end = (k : ℕ) → k < end → is_text_byte (slice_index bytes k)
 pub record IsText (bytes : List ℕ) : Type 0 where
   pub short : length bytes ≤ 1024
   pub each : ReadsTo bytes (length bytes)
+
+-- each is a byte
+abbrev pub IsBytes : List ℕ → Type 0
+IsBytes b = (i : ℕ) → slice_index b i < 256
