@@ -18,7 +18,3 @@ IsBytes b = (i : ℕ) → slice_index b i < 256
 pub record IsText (bytes : List ℕ) : Type 0 where
   pub short : length bytes ≤ STRING_LIMIT
   pub each : ReadsTo bytes (length bytes)
-
--- each is a byte
-abbrev pub IsBytes : List ℕ → Type 0
-IsBytes b = (i : ℕ) → slice_index b i < 256
