@@ -4,8 +4,8 @@ use Rattle.std.proofs.Common.{◌≡◌, ◌≢◌, ◌⊎◌, inl, inr, ⊎_eli
 use Rattle.gs_disk.specs.Folder.{Folder, Outside, overwritten}
 use Rattle.gs_disk.specs.Images.{Range, Unsynced, Unwritten, MayRead, MayStand, IsLeft, IsImage}
 use Rattle.gs_disk.specs.Crash.{IsFilled, FillsFile, HasByte, FillsRange, IsKept}
-use Rattle.gs_disk.specs.Mem.{files_of, folder_of, Puts, names_of, ranges_of, unsynced_of, reads}
-use Rattle.gs_disk.specs.Steps.{Undone, LeadBack, IsSound, LeavesBy}
+use Rattle.gs_disk.specs.Mem.{Puts, names_of, ranges_of, unsynced_of, reads}
+use Rattle.gs_disk.specs.Steps.{Undone, LeadBack, TellsAll, IsSound, LeavesBy}
 use Rattle.gs_disk.specs.declared.crash.Keep.{Keep}
 use Rattle.gs_disk.specs.declared.crash.Keep.TheVariants.{Nothing, All, Byte}
 use Rattle.gs_disk.specs.declared.now.Now.{Now}
@@ -149,12 +149,15 @@ leads_one (t ∷ ts) newest a b one two =
     undone_one t two.0 a b (subst (λ (f : Folder). Undone t f a) same one.2) two.2
 
 -- what `crash` keeps, and that it is an image
-pub kept_by : (keep : Keep) (now : Now) (left : Folder) → IsSound now → LeavesBy keep now.touched.items (reads now) left → IsKept keep (unsynced_of now) (reads now) left
-kept_by Nothing now left sound by = leads_one now.touched.items (reads now) left (folder_of (files_of now.synced.value)) by sound.leads
-kept_by All now left sound by = by
-kept_by (Byte b) now left sound by = record { renamed = by.renamed; others = by.others }
+pub kept_by : (keep : Keep) (now : Now) (left : Folder) → TellsAll now → LeavesBy keep now.touched.items (reads now) left → IsKept keep (unsynced_of now) (reads now) left
+kept_by Nothing now left told by = leads_one now.touched.items (reads now) left (unsynced_of now).synced by told.leads
+kept_by All now left told by = by
+kept_by (Byte b) now left told by = record {
+  renamed = λ x within. by.renamed x (subst (λ (ns : List (List ℕ)). Outside ns x → ⊥) (sym told.names) within);
+  others = λ x out. subst (λ (rs : List Range). FillsFile rs x b (reads now x) (left x)) told.ranges (by.others x (subst (λ (ns : List (List ℕ)). Outside ns x) (sym told.names) out));
+}
 
 pub image_by : (keep : Keep) (now : Now) (left : Folder) → IsSound now → IsKept keep (unsynced_of now) (reads now) left → IsImage (unsynced_of now) (reads now) left
-image_by Nothing now left sound kept = inr (subst (IsLeft (unsynced_of now)) (sym kept) (record { each = λ x out. may_stand_same (ranges_of now.touched.items) x (folder_of (files_of now.synced.value) x) }))
+image_by Nothing now left sound kept = inr (subst (IsLeft (unsynced_of now)) (sym kept) (record { each = λ x out. may_stand_same (unsynced_of now).written x ((unsynced_of now).synced x) }))
 image_by All now left sound kept = inl kept
 image_by (Byte b) now left sound kept = inr (byte_left b (unsynced_of now) (reads now) left sound.stands kept)

@@ -1,11 +1,16 @@
 -- How the images go on: what was an image before a call, for each image after it.
 use Rattle.std.proofs.Common.{◌≡◌, ◌≢◌, ◌⊎◌, inl, inr, ⊎_elim, ℕ, ◌+◌, ◌<◌, ◌≤◌, List, [], ◌∷◌, ◌++◌, length, take, get_or, take_all, length-take-le, le_refl, Option, Some, None, cond, true, false, refl, sym, ◌∙◌, ap, subst, arith}
-use Rattle.std.specs.Prelude.{bytes_eq, slice_index}
+use Rattle.std.specs.Prelude.{Bool, bytes_eq, filter, slice_index}
+use Rattle.std.proofs.Math.Bool.{not}
 use Rattle.std.proofs.lemmas.Slice.Eq.{bytes_eq-Decides}
 use Rattle.std.proofs.lemmas.List.{ext_get_or}
 use Rattle.std.proofs.lemmas.Grind.{common_steps}
 use Rattle.gs_disk.specs.Folder.{Folder, Outside, KeepsOthers, Torn, TornFile, Tears, overwritten}
-use Rattle.gs_disk.specs.Mem.{Puts}
+use Rattle.std.specs.Ordering.{nat_cmp}
+use Rattle.std.specs.Cmp.Lexicographic.{slice_cmp}
+use Rattle.std.specs.BTreeMap.{is_at}
+use Rattle.std.proofs.lemmas.Map.Text.{is_eq-slice_cmp}
+use Rattle.gs_disk.specs.Mem.{Files, folder_of, Puts, is_other, Done, unsynced_in, with_file}
 use Rattle.gs_disk.proofs.Bytes.{mid, length_mid, mid_in, mid_out, torn_mid, three_ways, overwritten_at, length_overwritten, longer_overwritten}
 use Rattle.gs_disk.specs.Images.{Range, Unsynced, Unwritten, EndsBy, MayRead, MayStand, IsLeft, IsImage}
 
@@ -226,10 +231,10 @@ written_follows u r reads new tears image (inl is) = (reads, inl refl, subst (Te
 written_follows u r reads new tears image (inr left) = let from = torn_left u r image left in (from.0, inr from.1, from.2)
 
 -- after a sync that succeeded
-abbrev pub settled : Folder → Unsynced
-settled reads = record { synced = reads; renamed = []; written = [] }
+abbrev pub settled_at : Folder → Unsynced
+settled_at reads = record { synced = reads; renamed = []; written = [] }
 
-pub settled_only : (reads image : Folder) → IsImage (settled reads) reads image → image ≡ reads
+pub settled_only : (reads image : Folder) → IsImage (settled_at reads) reads image → image ≡ reads
 settled_only reads image (inl is) = is
 settled_only reads image (inr left) = λ i x. may_stand_none x (reads x) (image x) (left.each x tt) i
 
@@ -282,5 +287,161 @@ stands_written u name at bytes file reads new left stood le (inr put) = record {
         (λ other. subst (λ (o : Option (List ℕ)). MayStand (u.written ++ record { name = name; at = at; len = length bytes } ∷ []) x (u.synced x) o) (sym (put.others x other)) (may_stand_more u.written (record { name = name; at = at; len = length bytes }) x (u.synced x) (reads x) (left.each x out)))
         (one_or_other x name)
 
-pub stands_settled : (reads : Folder) → IsLeft (settled reads) reads
+pub stands_settled : (reads : Folder) → IsLeft (settled_at reads) reads
 stands_settled reads = record { each = λ x out. may_stand_same [] x (reads x) }
+
+-- what is left of a list without one name
+
+pub is_one : (a b : List ℕ) → is_other a b ≡ false → a ≡ b
+is_one a b same = elim (bytes_eq a b) as (λ t. bytes_eq a b ≡ t → not t ≡ false → a ≡ b) [ true ↦ λ e f. (bytes_eq-Decides a b).0 e | false ↦ λ e f. absurd (cc (f)) ] refl same
+
+pub is_beside : (a b : List ℕ) → is_other a b ≡ true → a ≢ b
+is_beside a b other same = elim (bytes_eq a b) as (λ t. bytes_eq a b ≡ t → not t ≡ true → ⊥) [ true ↦ λ e f. cc (f) | false ↦ λ e f. no_both a b e ((bytes_eq-Decides a b).1 same) ] refl other
+  where
+    no_both : (a b : List ℕ) → bytes_eq a b ≡ false → bytes_eq a b ≡ true → ⊥
+    no_both a b e f = cc
+
+pub outside_without : (name : List ℕ) (names : List (List ℕ)) (x : List ℕ) → x ≢ name → Outside (filter (is_other name) names) x → Outside names x
+outside_without name [] x other out = tt
+outside_without name (n ∷ names) x other out = elim (is_other name n) as (λ t. is_other name n ≡ t → Outside (cond t (n ∷ filter (is_other name) names) (filter (is_other name) names)) x → Outside (n ∷ names) x) [
+  | true ↦ λ e o. (o.0, outside_without name names x other o.1)
+  | false ↦ λ e o. (λ same. other (same ∙ sym (is_one name n e)), outside_without name names x other o)
+] refl out
+
+pub outside_fewer : (name : List ℕ) (names : List (List ℕ)) (x : List ℕ) → Outside names x → Outside (filter (is_other name) names) x
+outside_fewer name [] x out = tt
+outside_fewer name (n ∷ names) x out = elim (is_other name n) as (λ t. Outside (cond t (n ∷ filter (is_other name) names) (filter (is_other name) names)) x) [
+  | true ↦ (out.0, outside_fewer name names x out.1)
+  | false ↦ outside_fewer name names x out.1
+]
+
+abbrev pub ranges_without : List ℕ → List Range → List Range
+ranges_without name rs = filter (λ r. is_other name r.name) rs
+
+unwritten_fewer : (name : List ℕ) (rs : List Range) (x : List ℕ) (k : ℕ) → Unwritten rs x k → Unwritten (ranges_without name rs) x k
+unwritten_fewer name [] x k un = tt
+unwritten_fewer name (r ∷ rs) x k un = elim (is_other name r.name) as (λ t. Unwritten (cond t (r ∷ ranges_without name rs) (ranges_without name rs)) x k) [
+  | true ↦ (un.0, unwritten_fewer name rs x k un.1)
+  | false ↦ unwritten_fewer name rs x k un.1
+]
+
+unwritten_without : (name : List ℕ) (rs : List Range) (x : List ℕ) (k : ℕ) → x ≢ name → Unwritten (ranges_without name rs) x k → Unwritten rs x k
+unwritten_without name [] x k other un = tt
+unwritten_without name (r ∷ rs) x k other un = elim (is_other name r.name) as (λ t. is_other name r.name ≡ t → Unwritten (cond t (r ∷ ranges_without name rs) (ranges_without name rs)) x k → Unwritten (r ∷ rs) x k) [
+  | true ↦ λ e u. (u.0, unwritten_without name rs x k other u.1)
+  | false ↦ λ e u. (λ same. absurd (other (sym same ∙ sym (is_one name r.name e))), unwritten_without name rs x k other u)
+] refl un
+
+ends_fewer : (name : List ℕ) (rs : List Range) (x : List ℕ) (end : ℕ) → EndsBy rs x end → EndsBy (ranges_without name rs) x end
+ends_fewer name [] x end by = tt
+ends_fewer name (r ∷ rs) x end by = elim (is_other name r.name) as (λ t. EndsBy (cond t (r ∷ ranges_without name rs) (ranges_without name rs)) x end) [
+  | true ↦ (by.0, ends_fewer name rs x end by.1)
+  | false ↦ ends_fewer name rs x end by.1
+]
+
+ends_without : (name : List ℕ) (rs : List Range) (x : List ℕ) (end : ℕ) → x ≢ name → EndsBy (ranges_without name rs) x end → EndsBy rs x end
+ends_without name [] x end other by = tt
+ends_without name (r ∷ rs) x end other by = elim (is_other name r.name) as (λ t. is_other name r.name ≡ t → EndsBy (cond t (r ∷ ranges_without name rs) (ranges_without name rs)) x end → EndsBy (r ∷ rs) x end) [
+  | true ↦ λ e b. (b.0, ends_without name rs x end other b.1)
+  | false ↦ λ e b. (λ same. absurd (other (sym same ∙ sym (is_one name r.name e))), ends_without name rs x end other b)
+] refl by
+
+may_stand_without : (name : List ℕ) (rs : List Range) (x : List ℕ) (old new : Option (List ℕ)) → MayStand (ranges_without name rs) x old new → MayStand rs x old new
+may_stand_without name rs x None new m = m
+may_stand_without name rs x (Some bytes) new m = (
+  m.0,
+  m.1,
+  record {
+    no_shorter = m.2.no_shorter;
+    no_longer = λ by. m.2.no_longer (ends_fewer name rs x (length bytes) by);
+    kept = λ k lt un. m.2.kept k lt (unwritten_fewer name rs x k un);
+  },
+)
+
+may_stand_beside : (name : List ℕ) (rs : List Range) (x : List ℕ) (old new : Option (List ℕ)) → x ≢ name → MayStand rs x old new → MayStand (ranges_without name rs) x old new
+may_stand_beside name rs x None new other m = m
+may_stand_beside name rs x (Some bytes) new other m = (
+  m.0,
+  m.1,
+  record {
+    no_shorter = m.2.no_shorter;
+    no_longer = λ by. m.2.no_longer (ends_without name rs x (length bytes) other by);
+    kept = λ k lt un. m.2.kept k lt (unwritten_without name rs x k other un);
+  },
+)
+
+-- a synced file was put there
+
+abbrev pub file_put : List ℕ → List ℕ → Unsynced → Unsynced
+file_put name bytes u = record { synced = at_name name (Some bytes) u.synced; renamed = filter (is_other name) u.renamed; written = ranges_without name u.written }
+
+folder_put : (name bytes : List ℕ) (files : Files) → folder_of ((name, bytes) ∷ files) ≡ at_name name (Some bytes) (folder_of files)
+unfolding at_name
+folder_put name bytes files = λ i x. same x i
+  where
+    swapped : (a b : List ℕ) → bytes_eq a b ≡ bytes_eq b a
+    swapped a b = elim (bytes_eq a b) as (λ t. bytes_eq a b ≡ t → t ≡ bytes_eq b a) [
+      | true ↦ λ e. sym ((bytes_eq-Decides b a).1 (sym ((bytes_eq-Decides a b).0 e)))
+      | false ↦ λ e. elim (bytes_eq b a) as (λ t. bytes_eq b a ≡ t → false ≡ t) [ true ↦ λ f. sym e ∙ (bytes_eq-Decides a b).1 (sym ((bytes_eq-Decides b a).0 f)) | false ↦ λ f. refl ] refl
+    ] refl
+
+    same : (x : List ℕ) → cond (is_at (slice_cmp nat_cmp x) name) (Some bytes) (folder_of files x) ≡ cond (bytes_eq name x) (Some bytes) (folder_of files x)
+    same x = ap (λ (t : Bool). cond t (Some bytes) (folder_of files x)) (is_eq-slice_cmp x name ∙ swapped x name)
+
+pub file_put_in : (name bytes : List ℕ) (d : Done) → unsynced_in (with_file name bytes d) ≡ file_put name bytes (unsynced_in d)
+file_put_in name bytes d = λ i. record { synced = folder_put name bytes d.synced i; renamed = filter (is_other name) d.renamed; written = ranges_without name d.written }
+
+pub added_follows : (u : Unsynced) (name bytes : List ℕ) (reads new : Folder) → Puts name (Some bytes) reads new → Follows (KeepsOthers (name ∷ [])) u reads (file_put name bytes u) new
+added_follows u name bytes reads new put image (inl is) = (reads, inl refl, record { each = λ x out. ap (λ (f : Folder). f x) is ∙ put.others x out.0 })
+added_follows u name bytes reads new put image (inr left) = (at_name name (u.synced name) image, inr (record { each = each }), record { each = λ x out. sym (at_other name (u.synced name) image x out.0) })
+  where
+    each : (x : List ℕ) → Outside u.renamed x → MayStand u.written x (u.synced x) (at_name name (u.synced name) image x)
+    each x out = ⊎_elim
+        (λ same. subst (λ (y : List ℕ). MayStand u.written y (u.synced y) (at_name name (u.synced name) image y)) (sym same)
+        (subst (λ (o : Option (List ℕ)). MayStand u.written name (u.synced name) o) (sym (at_here name (u.synced name) image)) (may_stand_same u.written name (u.synced name))))
+        (λ other. subst (λ (o : Option (List ℕ)). MayStand u.written x (u.synced x) o) (sym (at_other name (u.synced name) image x other))
+        (may_stand_without name u.written x (u.synced x) (image x)
+        (subst (λ (o : Option (List ℕ)). MayStand (ranges_without name u.written) x o (image x)) (at_other name (Some bytes) u.synced x other) (left.each x (outside_fewer name u.renamed x out)))))
+        (one_or_other x name)
+
+pub stands_added : (u : Unsynced) (name bytes : List ℕ) (reads new : Folder) → IsLeft u reads → Puts name (Some bytes) reads new → IsLeft (file_put name bytes u) new
+stands_added u name bytes reads new left put = record { each = each }
+  where
+    each : (x : List ℕ) → Outside (filter (is_other name) u.renamed) x → MayStand (ranges_without name u.written) x (at_name name (Some bytes) u.synced x) (new x)
+    each x out = ⊎_elim
+        (λ same. subst (λ (y : List ℕ). MayStand (ranges_without name u.written) y (at_name name (Some bytes) u.synced y) (new y)) (sym same)
+        (subst (λ (o : Option (List ℕ)). MayStand (ranges_without name u.written) name o (new name)) (sym (at_here name (Some bytes) u.synced))
+        (subst (λ (o : Option (List ℕ)). MayStand (ranges_without name u.written) name (Some bytes) o) (sym put.here) (may_stand_same (ranges_without name u.written) name (Some bytes)))))
+        (λ other. subst (λ (o : Option (List ℕ)). MayStand (ranges_without name u.written) x o (new x)) (sym (at_other name (Some bytes) u.synced x other))
+        (subst (λ (o : Option (List ℕ)). MayStand (ranges_without name u.written) x (u.synced x) o) (sym (put.others x other))
+        (may_stand_beside name u.written x (u.synced x) (reads x) other (left.each x (outside_without name u.renamed x other out)))))
+        (one_or_other x name)
+
+-- no write of that name is left
+ends_at : (name : List ℕ) (rs : List Range) (end : ℕ) → EndsBy (ranges_without name rs) name end
+ends_at name [] end = tt
+ends_at name (r ∷ rs) end = elim (is_other name r.name) as (λ t. is_other name r.name ≡ t → EndsBy (cond t (r ∷ ranges_without name rs) (ranges_without name rs)) name end) [
+  | true ↦ λ e. (λ same. absurd (is_beside name r.name e (sym same)), ends_at name rs end)
+  | false ↦ λ e. ends_at name rs end
+] refl
+
+unwritten_at : (name : List ℕ) (rs : List Range) (k : ℕ) → Unwritten (ranges_without name rs) name k
+unwritten_at name [] k = tt
+unwritten_at name (r ∷ rs) k = elim (is_other name r.name) as (λ t. is_other name r.name ≡ t → Unwritten (cond t (r ∷ ranges_without name rs) (ranges_without name rs)) name k) [
+  | true ↦ λ e. (λ same. absurd (is_beside name r.name e (sym same)), unwritten_at name rs k)
+  | false ↦ λ e. unwritten_at name rs k
+] refl
+
+outside_at : (name : List ℕ) (names : List (List ℕ)) → Outside (filter (is_other name) names) name
+outside_at name [] = tt
+outside_at name (n ∷ names) = elim (is_other name n) as (λ t. is_other name n ≡ t → Outside (cond t (n ∷ filter (is_other name) names) (filter (is_other name) names)) name) [
+  | true ↦ λ e. (is_beside name n e, outside_at name names)
+  | false ↦ λ e. outside_at name names
+] refl
+
+pub added_here : (u : Unsynced) (name bytes : List ℕ) (new image : Folder) → new name ≡ Some bytes → IsImage (file_put name bytes u) new image → image name ≡ Some bytes
+added_here u name bytes new image here (inl is) = ap (λ (f : Folder). f name) is ∙ here
+added_here u name bytes new image here (inr left) =
+    let m : MayStand (ranges_without name u.written) name (Some bytes) (image name) = subst (λ (o : Option (List ℕ)). MayStand (ranges_without name u.written) name o (image name)) (at_here name (Some bytes) u.synced) (left.each name (outside_at name u.renamed)) in
+    let size : length m.0 ≡ length bytes = m.2.no_longer (ends_at name u.written (length bytes)) in
+    m.1 ∙ ap (λ (l : List ℕ). Some l) (ext_get_or 0 m.0 bytes size (λ i lt. m.2.kept i (omega (arith, size)) (unwritten_at name u.written i)))

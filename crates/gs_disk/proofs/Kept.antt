@@ -1,19 +1,20 @@
 -- How a disk in memory keeps the trait's clauses on images.
-use Rattle.std.proofs.Common.{◌≡◌, ◌⊎◌, inl, inr, ⊎_elim, ℕ, ◌≤◌, List, [], ◌∷◌, ◌++◌, length, Option, Some, refl, sym, ◌∙◌, ap, subst, arith}
+use Rattle.std.proofs.Common.{◌≡◌, ◌⊎◌, inl, inr, ⊎_elim, ℕ, ◌≤◌, List, [], ◌∷◌, ◌++◌, length, take, drop, Option, Some, None, refl, sym, ◌∙◌, ap, subst, arith}
 use Rattle.std.specs.declared.snapshot.Snapshot.{Snapshot}
-use Rattle.gs_disk.specs.Folder.{Folder, DiskState, KeepsOthers, TornFile, Tears, Same, overwritten}
-use Rattle.gs_disk.specs.Moments.{LeavesOnly, Comes, Passes, Remembers}
+use Rattle.gs_disk.specs.Folder.{Folder, DiskState, KeepsOthers, TornFile, Tears, Same, MayWrite, overwritten}
+use Rattle.std.specs.Prelude.{IsTrue, IsSome, is_some, filter}
+use Rattle.gs_disk.specs.Moments.{LeavesOnly, EachNow, Comes, Passes, Remembers}
 use Rattle.gs_disk.specs.Images.{Range, Unsynced, IsLeft, IsImage}
-use Rattle.gs_disk.specs.Mem.{folder_of, files_of, Puts, names_of, ranges_of, unsynced_of, reads, Held, behind, LeftBehind}
-use Rattle.gs_disk.specs.Steps.{LeadBack, IsSound, Stays, Renames, Writes}
+use Rattle.gs_disk.specs.Mem.{folder_of, Puts, names_of, ranges_of, done_by, done_of, Done, unsynced_in, unsynced_of, files_of, settled, with_removal, is_other, reads, Held, behind, LeftBehind}
+use Rattle.gs_disk.specs.Steps.{LeadBack, TellsAll, IsSound, Stays, KeepsName, Renames, KeepsRange, Writes, Adds}
 use Rattle.gs_disk.specs.declared.now.Touch.{Touch}
 use Rattle.gs_disk.specs.declared.now.Touch.TheVariants.{Renamed, Written}
 use Rattle.gs_disk.specs.declared.now.Now.{Now}
 use Rattle.gs_disk.specs.declared.now.Past.{Past}
 use Rattle.gs_disk.specs.declared.now.Past.TheVariants.{Then}
 use Rattle.gs_disk.proofs.Bytes.{torn_overwritten}
-use Rattle.gs_disk.proofs.Images.{Follows, renamed_follows, written_follows, settled, settled_only, stands_renamed, stands_written, stands_settled, tears_same}
-use Rattle.gs_disk.proofs.Undoing.{leads_push, undone_renamed, undone_written}
+use Rattle.gs_disk.proofs.Images.{Follows, renamed_follows, written_follows, settled_at, settled_only, stands_renamed, stands_written, stands_settled, tears_same, at_name, file_put, file_put_in, added_follows, stands_added, added_here}
+use Rattle.gs_disk.proofs.Undoing.{leads_push, undone_renamed, undone_written, names_without, ranges_left, touches_without, leads_added, put_is}
 
 -- the disk that holds this
 abbrev pub disk_of : Now → Past → ℕ → ℕ → DiskState
@@ -56,13 +57,13 @@ pub remembers_same : (now : Now) (past : Past) (f r g s : ℕ) → Remembers (di
 remembers_same now past f r g s = record { keeps = λ t image le left. left; counts = λ t image le left. ⊎_elim inl (λ h. absurd (none_behind (behind past) _ image (omega arith) h)) left }
 
 -- after a sync
-pub leaves_only : (new : Now) (past : Past) (g s : ℕ) → unsynced_of new ≡ settled (reads new) → LeavesOnly (reads new) (disk_of new past g s)
-leaves_only new past g s is image left = ⊎_elim (λ now. settled_only (reads new) image (subst (λ (u : Unsynced). IsImage u (reads new) image) is now)) (λ h. absurd (none_behind (behind past) _ image (omega arith) h)) left
+pub leaves_only : (new : Now) (past : Past) (g s : ℕ) → done_of new ≡ settled (files_of new.files) → LeavesOnly (reads new) (disk_of new past g s)
+leaves_only new past g s done image left = ⊎_elim (λ now. settled_only (reads new) image (subst (λ (u : Unsynced). IsImage u (reads new) image) (ap unsynced_in done) now)) (λ h. absurd (none_behind (behind past) _ image (omega arith) h)) left
 
 -- what the calls make of the images
 
 same_images : (old new : Now) → Stays old new → unsynced_of new ≡ unsynced_of old
-same_images old new stays = λ i. record { synced = folder_of (files_of (stays.synced i)); renamed = names_of (stays.touched i); written = ranges_of (stays.touched i) }
+same_images old new stays = ap (λ since. unsynced_in (done_by since)) stays.since
 
 same_reads : (old new : Now) → Stays old new → reads new ≡ reads old
 same_reads old new stays = ap folder_of stays.files
@@ -71,11 +72,18 @@ pub stays_follows : (step : Folder → Folder → Type 0) → ((f : Folder) → 
 stays_follows step same old new stays image left =
     (image, subst (λ (f : Folder). IsImage (unsynced_of old) f image) (same_reads old new stays) (subst (λ (u : Unsynced). IsImage u (reads new) image) (same_images old new stays) left), same image)
 
-stays_sound : (old new : Now) → Stays old new → IsSound old → IsSound new
+pub stays_sound : (old new : Now) → Stays old new → IsSound old → IsSound new
 stays_sound old new stays sound = record {
-  leads = subst (λ (ts : List Touch). LeadBack ts (reads new) (folder_of (files_of new.synced.value))) (sym stays.touched)
-      (subst (λ (f : Folder). LeadBack old.touched.items f (folder_of (files_of new.synced.value))) (sym (same_reads old new stays))
-      (subst (λ (f : Folder). LeadBack old.touched.items (reads old) f) (ap (λ m. folder_of (files_of m)) (sym stays.synced)) sound.leads));
+  whole = λ is.
+      let was = sound.whole (subst IsTrue stays.is_whole is) in
+      let done = same_images old new stays in
+      record {
+        names = ap names_of stays.touched ∙ was.names ∙ sym (ap (λ (u : Unsynced). u.renamed) done);
+        ranges = ap ranges_of stays.touched ∙ was.ranges ∙ sym (ap (λ (u : Unsynced). u.written) done);
+        leads = subst (λ (u : Unsynced). LeadBack new.touched.items (reads new) u.synced) (sym done)
+            (subst (λ (ts : List Touch). LeadBack ts (reads new) (unsynced_of old).synced) (sym stays.touched)
+            (subst (λ (f : Folder). LeadBack old.touched.items f (unsynced_of old).synced) (sym (same_reads old new stays)) was.leads));
+      };
   stands = subst (λ (f : Folder). IsLeft (unsynced_of new) f) (sym (same_reads old new stays)) (subst (λ (u : Unsynced). IsLeft u (reads old)) (sym (same_images old new stays)) sound.stands);
 }
 
@@ -89,42 +97,33 @@ ranges_push [] t = refl
 ranges_push (Renamed name before ∷ ts) t = ranges_push ts t
 ranges_push (Written name at len before end ∷ ts) t = ap (λ (l : List Range). record { name = name; at = at; len = len } ∷ l) (ranges_push ts t)
 
-renamed_images : (name : List ℕ) (old new : Now) → Renames name old new → unsynced_of new ≡ record (unsynced_of old) { renamed = names_of old.touched.items ++ name ∷ [] }
-renamed_images name old new r =
-    let names : names_of new.touched.items ≡ names_of old.touched.items ++ name ∷ [] = ap names_of r.touched ∙ names_push old.touched.items (Renamed name r.before) in
-    let ranges : ranges_of new.touched.items ≡ ranges_of old.touched.items = ap ranges_of r.touched ∙ ranges_push old.touched.items (Renamed name r.before) ∙ nothing_more (ranges_of old.touched.items) in
-    λ i. record { synced = folder_of (files_of (r.synced i)); renamed = names i; written = ranges i }
-  where
-    nothing_more : (rs : List Range) → rs ++ [] ≡ rs
-    nothing_more [] = refl
-    nothing_more (r ∷ rs) = ap (λ (l : List Range). r ∷ l) (nothing_more rs)
+nothing_more : {A : Type 0} → (xs : List A) → xs ++ [] ≡ xs
+nothing_more [] = refl
+nothing_more (x ∷ xs) = ap (λ l. x ∷ l) (nothing_more xs)
 
-written_images : (name : List ℕ) (at : ℕ) (bytes : List ℕ) (old new : Now) → Writes name at bytes old new → unsynced_of new ≡ record (unsynced_of old) { written = ranges_of old.touched.items ++ record { name = name; at = at; len = length bytes } ∷ [] }
-written_images name at bytes old new w =
-    let names : names_of new.touched.items ≡ names_of old.touched.items = ap names_of w.touched ∙ names_push old.touched.items (Written name at (length bytes) w.before (length w.file)) ∙ nothing_more (names_of old.touched.items) in
-    let ranges : ranges_of new.touched.items ≡ ranges_of old.touched.items ++ record { name = name; at = at; len = length bytes } ∷ [] = ap ranges_of w.touched ∙ ranges_push old.touched.items (Written name at (length bytes) w.before (length w.file)) in
-    λ i. record { synced = folder_of (files_of (w.synced i)); renamed = names i; written = ranges i }
-  where
-    nothing_more : (ns : List (List ℕ)) → ns ++ [] ≡ ns
-    nothing_more [] = refl
-    nothing_more (n ∷ ns) = ap (λ (l : List (List ℕ)). n ∷ l) (nothing_more ns)
+pub renames_follows : (name : List ℕ) (old new : Now) → Renames name old new → Follows (KeepsOthers (name ∷ [])) (unsynced_of old) (reads old) (unsynced_of new) (reads new)
+renames_follows name old new r = subst (λ (u : Unsynced). Follows (KeepsOthers (name ∷ [])) (unsynced_of old) (reads old) u (reads new)) (sym (ap unsynced_in r.done)) (renamed_follows (unsynced_of old) name (reads old) (reads new) r.others)
 
-renames_follows : (name : List ℕ) (old new : Now) → Renames name old new → Follows (KeepsOthers (name ∷ [])) (unsynced_of old) (reads old) (unsynced_of new) (reads new)
-renames_follows name old new r = subst (λ (u : Unsynced). Follows (KeepsOthers (name ∷ [])) (unsynced_of old) (reads old) u (reads new)) (sym (renamed_images name old new r)) (renamed_follows (unsynced_of old) name (reads old) (reads new) r.others)
+renames_whole : (name : List ℕ) (old new : Now) → Renames name old new → TellsAll old → KeepsName name old new → TellsAll new
+renames_whole name old new r was kept = record {
+  names = ap names_of kept.touched ∙ names_push old.touched.items (Renamed name kept.before) ∙ ap (λ (l : List (List ℕ)). l ++ name ∷ []) was.names ∙ sym (ap (λ (d : Done). d.renamed) r.done);
+  ranges = ap ranges_of kept.touched ∙ ranges_push old.touched.items (Renamed name kept.before) ∙ nothing_more (ranges_of old.touched.items) ∙ was.ranges ∙ sym (ap (λ (d : Done). d.written) r.done);
+  leads = subst (λ (d : Done). LeadBack new.touched.items (reads new) (folder_of d.synced)) (sym r.done)
+      (subst (λ (ts : List Touch). LeadBack ts (reads new) (unsynced_of old).synced) (sym kept.touched)
+      (leads_push old.touched.items (Renamed name kept.before) (reads new) (reads old) (unsynced_of old).synced was.leads (undone_renamed name kept.before (reads old) (reads new) kept.stood r.others)));
+}
 
-renames_sound : (name : List ℕ) (old new : Now) → Renames name old new → IsSound old → IsSound new
+pub renames_sound : (name : List ℕ) (old new : Now) → Renames name old new → IsSound old → IsSound new
 renames_sound name old new r sound = record {
-  leads = subst (λ (ts : List Touch). LeadBack ts (reads new) (folder_of (files_of new.synced.value))) (sym r.touched)
-      (subst (λ (f : Folder). LeadBack (old.touched.items ++ Renamed name r.before ∷ []) (reads new) f) (ap (λ m. folder_of (files_of m)) (sym r.synced))
-      (leads_push old.touched.items (Renamed name r.before) (reads new) (reads old) (folder_of (files_of old.synced.value)) sound.leads (undone_renamed name r.before (reads old) (reads new) r.stood r.others)));
-  stands = subst (λ (u : Unsynced). IsLeft u (reads new)) (sym (renamed_images name old new r)) (stands_renamed (unsynced_of old) name (reads old) (reads new) sound.stands r.others);
+  whole = λ is. let kept = r.kept is in renames_whole name old new r (sound.whole kept.0) kept.1;
+  stands = subst (λ (u : Unsynced). IsLeft u (reads new)) (sym (ap unsynced_in r.done)) (stands_renamed (unsynced_of old) name (reads old) (reads new) sound.stands r.others);
 }
 
 changed : (name : List ℕ) (at : ℕ) (bytes : List ℕ) (old new : Now) → (w : Writes name at bytes old new) → (reads new ≡ reads old) ⊎ Puts name (Some (overwritten at bytes w.file)) (reads old) (reads new)
 changed name at bytes old new w = ⊎_elim (λ same. inl (ap folder_of same)) inr w.change
 
-written_tears : (name : List ℕ) (at : ℕ) (bytes : List ℕ) (old new : Now) → Writes name at bytes old new → Tears name at (length bytes) (reads old) (reads new)
-written_tears name at bytes old new w = ⊎_elim
+pub write_tears : (name : List ℕ) (at : ℕ) (bytes : List ℕ) (old new : Now) → Writes name at bytes old new → Tears name at (length bytes) (reads old) (reads new)
+write_tears name at bytes old new w = ⊎_elim
     (λ same. subst (λ (f : Folder). Tears name at (length bytes) (reads old) f) (sym same) (record { others = record { each = λ x out. refl }; file = tears_same at (length bytes) (reads old name) }))
     (λ put. record {
       others = record { each = λ x out. put.others x out.0 };
@@ -132,58 +131,110 @@ written_tears name at bytes old new w = ⊎_elim
     })
     (changed name at bytes old new w)
 
-writes_follows : (name : List ℕ) (at : ℕ) (bytes : List ℕ) (old new : Now) → Writes name at bytes old new → Follows (Tears name at (length bytes)) (unsynced_of old) (reads old) (unsynced_of new) (reads new)
-writes_follows name at bytes old new w = subst (λ (u : Unsynced). Follows (Tears name at (length bytes)) (unsynced_of old) (reads old) u (reads new)) (sym (written_images name at bytes old new w))
-    (written_follows (unsynced_of old) (record { name = name; at = at; len = length bytes }) (reads old) (reads new) (written_tears name at bytes old new w))
+pub write_follows : (name : List ℕ) (at : ℕ) (bytes : List ℕ) (old new : Now) → Writes name at bytes old new → Follows (Tears name at (length bytes)) (unsynced_of old) (reads old) (unsynced_of new) (reads new)
+write_follows name at bytes old new w = subst (λ (u : Unsynced). Follows (Tears name at (length bytes)) (unsynced_of old) (reads old) u (reads new)) (sym (ap unsynced_in w.done))
+    (written_follows (unsynced_of old) (record { name = name; at = at; len = length bytes }) (reads old) (reads new) (write_tears name at bytes old new w))
 
-writes_sound : (name : List ℕ) (at : ℕ) (bytes : List ℕ) (old new : Now) → Writes name at bytes old new → IsSound old → IsSound new
-writes_sound name at bytes old new w sound = record {
-  leads = subst (λ (ts : List Touch). LeadBack ts (reads new) (folder_of (files_of new.synced.value))) (sym w.touched)
-      (subst (λ (f : Folder). LeadBack (old.touched.items ++ Written name at (length bytes) w.before (length w.file) ∷ []) (reads new) f) (ap (λ m. folder_of (files_of m)) (sym w.synced))
-      (leads_push old.touched.items (Written name at (length bytes) w.before (length w.file)) (reads new) (reads old) (folder_of (files_of old.synced.value)) sound.leads
-      (undone_written name at bytes w.file w.before (reads old) (reads new) w.stood w.room w.part (changed name at bytes old new w))));
-  stands = subst (λ (u : Unsynced). IsLeft u (reads new)) (sym (written_images name at bytes old new w)) (stands_written (unsynced_of old) name at bytes w.file (reads old) (reads new) sound.stands w.stood w.room (changed name at bytes old new w));
+some_one : (a b : List ℕ) → Some a ≡ Some b → a ≡ b
+some_one a b e = cc
+
+writes_whole : (name : List ℕ) (at : ℕ) (bytes : List ℕ) (old new : Now) → (w : Writes name at bytes old new) → TellsAll old → KeepsRange name at (length bytes) old new → TellsAll new
+writes_whole name at bytes old new w was kept =
+    let same : kept.file ≡ w.file = some_one kept.file w.file (sym kept.stood ∙ w.stood) in
+    let touched : new.touched.items ≡ old.touched.items ++ Written name at (length bytes) kept.before (length w.file) ∷ [] = kept.touched ∙ ap (λ (f : List ℕ). old.touched.items ++ Written name at (length bytes) kept.before (length f) ∷ []) same in
+    let part : kept.before.items ≡ take (length bytes) (drop at w.file) = kept.part ∙ ap (λ (f : List ℕ). take (length bytes) (drop at f)) same in
+    record {
+      names = ap names_of touched ∙ names_push old.touched.items (Written name at (length bytes) kept.before (length w.file)) ∙ nothing_more (names_of old.touched.items) ∙ was.names ∙ sym (ap (λ (d : Done). d.renamed) w.done);
+      ranges = ap ranges_of touched ∙ ranges_push old.touched.items (Written name at (length bytes) kept.before (length w.file)) ∙ ap (λ (l : List Range). l ++ record { name = name; at = at; len = length bytes } ∷ []) was.ranges ∙ sym (ap (λ (d : Done). d.written) w.done);
+      leads = subst (λ (d : Done). LeadBack new.touched.items (reads new) (folder_of d.synced)) (sym w.done)
+          (subst (λ (ts : List Touch). LeadBack ts (reads new) (unsynced_of old).synced) (sym touched)
+          (leads_push old.touched.items (Written name at (length bytes) kept.before (length w.file)) (reads new) (reads old) (unsynced_of old).synced was.leads
+          (undone_written name at bytes w.file kept.before (reads old) (reads new) w.stood w.room part (changed name at bytes old new w))));
+    }
+
+pub write_sound : (name : List ℕ) (at : ℕ) (bytes : List ℕ) (old new : Now) → Writes name at bytes old new → IsSound old → IsSound new
+write_sound name at bytes old new w sound = record {
+  whole = λ is. let kept = w.kept is in writes_whole name at bytes old new w (sound.whole kept.0) kept.1;
+  stands = subst (λ (u : Unsynced). IsLeft u (reads new)) (sym (ap unsynced_in w.done)) (stands_written (unsynced_of old) name at bytes w.file (reads old) (reads new) sound.stands w.stood w.room (changed name at bytes old new w));
 }
 
 -- the clauses of the calls
 
-pub rename_follows : (name : List ℕ) (old new : Now) → Stays old new ⊎ Renames name old new → Follows (KeepsOthers (name ∷ [])) (unsynced_of old) (reads old) (unsynced_of new) (reads new)
-rename_follows name old new went = ⊎_elim (stays_follows (KeepsOthers (name ∷ [])) (λ f. record { each = λ x out. refl }) old new) (renames_follows name old new) went
+-- a removal goes by whether the file was present
+abbrev pub Removes : List ℕ → Now → Now → Option (List ℕ) → Type 0
+Removes name old new None = Stays old new
+Removes name old new (Some bytes) = Renames name old new
 
-pub rename_sound : (name : List ℕ) (old new : Now) → Stays old new ⊎ Renames name old new → IsSound old → IsSound new
-rename_sound name old new went sound = ⊎_elim (λ stays. stays_sound old new stays sound) (λ r. renames_sound name old new r sound) went
+pub removes : (name : List ℕ) (old new : Now) → (reads old name ≡ None → Stays old new) → (IsSome (reads old name) → Renames name old new) → Removes name old new (reads old name)
+removes name old new absent present = elim (reads old name) as (λ o. reads old name ≡ o → Removes name old new o) [ None ↦ λ e. absent e | Some bytes ↦ λ e. present (ap (λ (o : Option (List ℕ)). is_some o) e) ] refl
 
-pub rename_others : (name : List ℕ) (old new : Now) → Stays old new ⊎ Renames name old new → KeepsOthers (name ∷ []) (reads old) (reads new)
-rename_others name old new went = ⊎_elim (λ stays. record { each = λ x out. ap (λ (f : Folder). f x) (same_reads old new stays) }) (λ r. r.others) went
+pub remove_follows : (name : List ℕ) (old new : Now) (file : Option (List ℕ)) → Removes name old new file → Follows (KeepsOthers (name ∷ [])) (unsynced_of old) (reads old) (unsynced_of new) (reads new)
+remove_follows name old new None went = stays_follows (KeepsOthers (name ∷ [])) (λ f. record { each = λ x out. refl }) old new went
+remove_follows name old new (Some bytes) went = renames_follows name old new went
+
+pub remove_sound : (name : List ℕ) (old new : Now) (file : Option (List ℕ)) → Removes name old new file → IsSound old → IsSound new
+remove_sound name old new None went sound = stays_sound old new went sound
+remove_sound name old new (Some bytes) went sound = renames_sound name old new went sound
+
+pub remove_others : (name : List ℕ) (old new : Now) (file : Option (List ℕ)) → Removes name old new file → KeepsOthers (name ∷ []) (reads old) (reads new)
+remove_others name old new None went = record { each = λ x out. ap (λ (f : Folder). f x) (same_reads old new went) }
+remove_others name old new (Some bytes) went = went.others
+
+pub remove_done : (name : List ℕ) (old new : Now) (file : Option (List ℕ)) → Removes name old new file → done_of new ≡ with_removal name file (done_of old)
+remove_done name old new None went = ap done_by went.since
+remove_done name old new (Some bytes) went = went.done
 
 pub same_follows : (old new : Now) → Stays old new → Follows Same (unsynced_of old) (reads old) (unsynced_of new) (reads new)
 same_follows old new stays = stays_follows Same (λ f. record { is = refl }) old new stays
 
-pub write_follows : (name : List ℕ) (at : ℕ) (bytes : List ℕ) (old new : Now) → Stays old new ⊎ Writes name at bytes old new → Follows (Tears name at (length bytes)) (unsynced_of old) (reads old) (unsynced_of new) (reads new)
-write_follows name at bytes old new went = ⊎_elim (stays_follows (Tears name at (length bytes)) (λ f. record { others = record { each = λ x out. refl }; file = tears_same at (length bytes) (f name) }) old new) (writes_follows name at bytes old new) went
+-- the files of the sync are those that read, and nothing was done since
+pub settled_now : (new : Now) → done_of new ≡ settled (files_of new.files) → unsynced_of new ≡ settled_at (reads new)
+settled_now new done = ap unsynced_in done
 
-pub write_sound : (name : List ℕ) (at : ℕ) (bytes : List ℕ) (old new : Now) → Stays old new ⊎ Writes name at bytes old new → IsSound old → IsSound new
-write_sound name at bytes old new went sound = ⊎_elim (λ stays. stays_sound old new stays sound) (λ w. writes_sound name at bytes old new w sound) went
+pub settles_follows : (old new : Now) → reads new ≡ reads old → done_of new ≡ settled (files_of new.files) → Follows Same (unsynced_of old) (reads old) (unsynced_of new) (reads new)
+settles_follows old new same done image left =
+    (reads old, inl refl, record { is = settled_only (reads new) image (subst (λ (u : Unsynced). IsImage u (reads new) image) (settled_now new done) left) ∙ same })
 
-pub write_tears : (name : List ℕ) (at : ℕ) (bytes : List ℕ) (old new : Now) → Stays old new ⊎ Writes name at bytes old new → Tears name at (length bytes) (reads old) (reads new)
-write_tears name at bytes old new went = ⊎_elim
-    (λ stays. subst (λ (f : Folder). Tears name at (length bytes) (reads old) f) (sym (same_reads old new stays)) (record { others = record { each = λ x out. refl }; file = tears_same at (length bytes) (reads old name) }))
-    (written_tears name at bytes old new) went
-
-pub settles_follows : (old new : Now) → reads new ≡ reads old → unsynced_of new ≡ settled (reads new) → Follows Same (unsynced_of old) (reads old) (unsynced_of new) (reads new)
-settles_follows old new same is image left =
-    (reads old, inl refl, record { is = settled_only (reads new) image (subst (λ (u : Unsynced). IsImage u (reads new) image) is left) ∙ same })
-
--- the folder of the sync is what reads, and nothing was done since
-pub settled_now : (new : Now) → new.synced.value ≡ new.files → new.touched.items ≡ [] → unsynced_of new ≡ settled (reads new)
-settled_now new same none = λ i. record { synced = folder_of (files_of (same i)); renamed = names_of (none i); written = ranges_of (none i) }
-
-pub settled_sound : (new : Now) → new.synced.value ≡ new.files → new.touched.items ≡ [] → IsSound new
-settled_sound new same none = record {
-  leads = subst (λ (ts : List Touch). LeadBack ts (reads new) (folder_of (files_of new.synced.value))) (sym none) (ap (λ m. folder_of (files_of m)) same);
-  stands = subst (λ (u : Unsynced). IsLeft u (reads new)) (sym (settled_now new same none)) (stands_settled (reads new));
+pub settled_sound : (new : Now) → done_of new ≡ settled (files_of new.files) → new.touched.items ≡ [] → IsSound new
+settled_sound new done none = record {
+  whole = λ is. record {
+    names = ap names_of none ∙ sym (ap (λ (d : Done). d.renamed) done);
+    ranges = ap ranges_of none ∙ sym (ap (λ (d : Done). d.written) done);
+    leads = subst (λ (ts : List Touch). LeadBack ts (reads new) (unsynced_of new).synced) (sym none) (ap (λ (d : Done). folder_of d.synced) done);
+  };
+  stands = subst (λ (u : Unsynced). IsLeft u (reads new)) (sym (settled_now new done)) (stands_settled (reads new));
 }
 
-pub adds_follows : (name : List ℕ) (old new : Now) → KeepsOthers (name ∷ []) (reads old) (reads new) → unsynced_of new ≡ settled (reads new) → Follows (KeepsOthers (name ∷ [])) (unsynced_of old) (reads old) (unsynced_of new) (reads new)
-adds_follows name old new others is image left =
-    (reads old, inl refl, subst (KeepsOthers (name ∷ []) (reads old)) (sym (settled_only (reads new) image (subst (λ (u : Unsynced). IsImage u (reads new) image) is left))) others)
+-- a file that is put there
+pub added_is : (name bytes : List ℕ) (old new : Now) → Adds name bytes old new → unsynced_of new ≡ file_put name bytes (unsynced_of old)
+added_is name bytes old new a = ap unsynced_in a.done ∙ file_put_in name bytes (done_of old)
+
+pub adds_follows : (name bytes : List ℕ) (old new : Now) → Adds name bytes old new → Follows (KeepsOthers (name ∷ [])) (unsynced_of old) (reads old) (unsynced_of new) (reads new)
+adds_follows name bytes old new a = subst (λ (u : Unsynced). Follows (KeepsOthers (name ∷ [])) (unsynced_of old) (reads old) u (reads new)) (sym (added_is name bytes old new a)) (added_follows (unsynced_of old) name bytes (reads old) (reads new) a.put)
+
+adds_whole : (name bytes : List ℕ) (old new : Now) → Adds name bytes old new → TellsAll old → TellsAll new
+adds_whole name bytes old new a was = record {
+  names = ap names_of a.touched ∙ names_without name old.touched.items ∙ ap (λ (l : List (List ℕ)). filter (is_other name) l) was.names ∙ sym (ap (λ (d : Done). d.renamed) a.done);
+  ranges = ap ranges_of a.touched ∙ ranges_left name old.touched.items ∙ ap (λ (l : List Range). filter (λ r. is_other name r.name) l) was.ranges ∙ sym (ap (λ (d : Done). d.written) a.done);
+  leads = subst (λ (u : Unsynced). LeadBack new.touched.items (reads new) u.synced) (sym (added_is name bytes old new a))
+      (subst (λ (ts : List Touch). LeadBack ts (reads new) (at_name name (Some bytes) (unsynced_of old).synced)) (sym a.touched)
+      (subst (λ (f : Folder). LeadBack (touches_without name old.touched.items) f (at_name name (Some bytes) (unsynced_of old).synced)) (sym (put_is name (Some bytes) (reads old) (reads new) a.put))
+      (leads_added name (Some bytes) old.touched.items (reads old) (unsynced_of old).synced was.leads)));
+}
+
+pub adds_sound : (name bytes : List ℕ) (old new : Now) → Adds name bytes old new → IsSound old → IsSound new
+adds_sound name bytes old new a sound = record {
+  whole = λ is. adds_whole name bytes old new a (sound.whole (subst IsTrue a.is_whole is));
+  stands = subst (λ (u : Unsynced). IsLeft u (reads new)) (sym (added_is name bytes old new a)) (stands_added (unsynced_of old) name bytes (reads old) (reads new) sound.stands a.put);
+}
+
+pub adds_here : (name bytes : List ℕ) (old new : Now) (past : Past) (g s : ℕ) → Adds name bytes old new → EachNow (λ image. image name ≡ Some bytes) (disk_of new past g s)
+adds_here name bytes old new past g s a image left = ⊎_elim
+    (λ now. added_here (unsynced_of old) name bytes (reads new) image a.put.here (subst (λ (u : Unsynced). IsImage u (reads new) image) (added_is name bytes old new a) now))
+    (λ h. absurd (none_behind (behind past) _ image (omega arith) h))
+    left
+
+-- a write has its file
+pub room_of : (at n : ℕ) (file : Option (List ℕ)) → MayWrite at n file → (bytes : List ℕ) × (file ≡ Some bytes) × (at ≤ length bytes)
+room_of at n None may = absurd may
+room_of at n (Some bytes) may = (bytes, refl, may.0)

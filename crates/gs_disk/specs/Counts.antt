@@ -1,12 +1,9 @@
 -- What is counted of a call, exactly.
-use Rattle.std.specs.Prelude.{◌≡◌, ℕ, ◌+◌, ◌-◌, ◌^◌, min, Result, Ok, Err}
+use Rattle.std.specs.Prelude.{◌≡◌, ℕ, Result, Ok, Err}
+use Rattle.gs_types.specs.Counts.{up}
 use Rattle.gs_disk.specs.Folder.{DiskState}
 use Rattle.gs_disk.specs.declared.disk.DiskErr.{DiskErr}
 use Rattle.gs_disk.specs.declared.disk.DiskErr.TheVariants.{Fault, Memory}
-
--- one more, but for the last value of a `u64`
-abbrev pub up : ℕ → ℕ
-up n = min (n + 1) (2 ^ 64 - 1)
 
 abbrev pub faults_by : DiskErr → ℕ → ℕ
 faults_by Fault n = up n

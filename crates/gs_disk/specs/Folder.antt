@@ -3,6 +3,7 @@ use Rattle.std.specs.Prelude.{◌≡◌, ◌≢◌, ℕ, ◌+◌, ◌-◌, ◌^�
 use Rattle.std.specs.Ordering.{nat_cmp}
 use Rattle.std.specs.Cmp.Lexicographic.{slice_cmp}
 use Rattle.std.specs.declared.cmp.Ordering.TheVariants.{Less}
+use Rattle.gs_types.specs.Counts.{Caused}
 use Rattle.gs_disk.specs.declared.disk.DiskErr.{DiskErr}
 use Rattle.gs_disk.specs.declared.disk.DiskErr.TheVariants.{Fault, Memory}
 
@@ -61,16 +62,10 @@ MayWrite at n file = MatchOption file ⊥ (λ bytes. (at ≤ length bytes) × (a
 abbrev pub IsRead : ℕ → ℕ → Option (List ℕ) → List ℕ → List ℕ → Type 0
 IsRead at n file old new = MatchOption file ((n ≡ 0) × (new ≡ old)) (λ bytes. (n ≡ min (length old) (length bytes - at)) × (new ≡ take n (drop at bytes) ++ drop n old))
 
--- the count rose, or stands at the last value of a `u64`
-abbrev pub Rises : ℕ → ℕ → Type 0
-Rises old new = min (old + 1) (2 ^ 64 - 1) ≤ new
-
 -- the counts don't fall, and an error has its cause
 pub record HasCause {T : Type 0} (old new : DiskState) (result : Result T DiskErr) : Type 0 where
-  pub faults_rise : old.faults ≤ new.faults
-  pub refusals_rise : old.refusals ≤ new.refusals
-  pub fault : IsErrOf result Fault → Rises old.faults new.faults
-  pub memory : IsErrOf result Memory → Rises old.refusals new.refusals
+  pub faults : Caused (IsErrOf result Fault) old.faults new.faults
+  pub refusals : Caused (IsErrOf result Memory) old.refusals new.refusals
 
 -- in rising order of bytes
 abbrev pub Rise : List (List ℕ) → Type 0

@@ -21,6 +21,10 @@ goes_on step more all a b c one two wider both = record {
   now = λ image left. let h = two.now image left in let from = one.now h.0 h.1 in (from.0, from.1, both from.0 h.0 image h.1 from.2 h.2);
 }
 
+-- what each image has now goes over a step
+pub now_goes_on : (P Q : Folder → Type 0) (step : Folder → Folder → Type 0) (s t : DiskState) → ((f g : Folder) → P f → step f g → Q g) → EachNow P s → Passes step s t → EachNow Q t
+now_goes_on P Q step s t over each passes image left = let from = passes.now image left in over from.0 image (each from.0 from.1) from.2
+
 -- each of these is one of those
 abbrev pub AreAmong : List (List ℕ) → List (List ℕ) → Type 0
 AreAmong few names = (x : List ℕ) → Outside names x → Outside few x

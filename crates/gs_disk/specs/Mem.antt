@@ -1,5 +1,6 @@
 -- A disk in memory as clauses see it, and what each call of it counts.
-use Rattle.std.specs.Prelude.{◌≡◌, ◌≢◌, ◌↔◌, ◌==◌, ◌||◌, ◌⊎◌, ℕ, ◌-◌, ◌≤◌, Bool, false, IsTrue, if◌then◌else◌, List, [], ◌∷◌, length, map, Vec, Option, Some, None, option_map, Result, IsErrOf, OnErr}
+use Rattle.std.specs.Prelude.{◌≡◌, ◌≢◌, ◌↔◌, ◌==◌, ◌||◌, ◌⊎◌, ℕ, ◌-◌, ◌≤◌, Bool, false, IsTrue, if◌then◌else◌, bytes_eq, List, [], ◌∷◌, ◌++◌, filter, length, map, Vec, Option, Some, None, option_map, Result, IsErrOf, OnErr}
+use Rattle.std.proofs.Math.Bool.{not}
 use Rattle.std.specs.List.{list_any}
 use Rattle.std.specs.Map.{lookup}
 use Rattle.std.specs.BTreeMap.{is_at}
@@ -9,11 +10,13 @@ use Rattle.std.specs.declared.collections.BTreeMap.{BTreeMap}
 use Rattle.std.specs.declared.alloc.Global.{Global}
 use Rattle.gs_disk.specs.Folder.{Folder, DiskState}
 use Rattle.gs_disk.specs.Images.{Range, Unsynced, IsImage}
-use Rattle.gs_disk.specs.Counts.{up, Counts}
+use Rattle.gs_types.specs.Counts.{up}
+use Rattle.gs_disk.specs.Counts.{Counts}
 use Rattle.gs_disk.specs.declared.disk.DiskErr.{DiskErr}
 use Rattle.gs_disk.specs.declared.disk.DiskErr.TheVariants.{Fault}
 use Rattle.gs_disk.specs.declared.now.Touch.{Touch}
 use Rattle.gs_disk.specs.declared.now.Touch.TheVariants.{Renamed, Written}
+use Rattle.gs_disk.specs.declared.now.Since.{Since, Synced, Named', Wrote', Added'}
 use Rattle.gs_disk.specs.declared.now.Now.{Now}
 use Rattle.gs_disk.specs.declared.now.Past.{Past, Start, Then'}
 
@@ -44,21 +47,67 @@ ranges_of [] = []
 ranges_of (Renamed name before ∷ ts) = ranges_of ts
 ranges_of (Written name at len before end ∷ ts) = record { name = name; at = at; len = len } ∷ ranges_of ts
 
--- what a disk in memory holds: the files as they read, as they were at the last sync, and what was done since
-pub record Held : Type 0 where
-  pub files : Files
+-- the name that a call touched
+abbrev pub touched_name : Touch → List ℕ
+touched_name (Renamed name before) = name
+touched_name (Written name at len before end) = name
+
+-- the files at the last sync, of two of one name the first, and the names and ranges that were touched since
+pub record Done : Type 0 where
   pub synced : Files
   pub renamed : List (List ℕ)
   pub written : List Range
 
-abbrev pub held_by : Now → Held
-held_by now = record { files = files_of now.files; synced = files_of now.synced.value; renamed = names_of now.touched.items; written = ranges_of now.touched.items }
+-- a sync that succeeded
+abbrev pub settled : Files → Done
+settled files = record { synced = files; renamed = []; written = [] }
 
-abbrev pub unsynced_in : Held → Unsynced
-unsynced_in h = record { synced = folder_of h.synced; renamed = h.renamed; written = h.written }
+-- a name was created or removed
+abbrev pub with_name : List ℕ → Done → Done
+with_name name d = record d { renamed = d.renamed ++ name ∷ [] }
+
+-- a file was removed, where it was present
+abbrev pub with_removal : List ℕ → Option (List ℕ) → Done → Done
+with_removal name None d = d
+with_removal name (Some bytes) d = with_name name d
+
+-- a range was written
+abbrev pub with_range : Range → Done → Done
+with_range range d = record d { written = d.written ++ range ∷ [] }
+
+abbrev pub is_other : List ℕ → List ℕ → Bool
+is_other name x = not (bytes_eq name x)
+
+-- a synced file of these bytes was put there, whatever was done to its name; what was done to other names stays
+abbrev pub with_file : List ℕ → List ℕ → Done → Done
+with_file name bytes d = record {
+  synced = (name, bytes) ∷ d.synced;
+  renamed = filter (is_other name) d.renamed;
+  written = filter (λ r. is_other name r.name) d.written;
+}
+
+abbrev pub done_by : Since → Done
+done_by (Synced files) = settled (files_of files.value)
+done_by (Named' name s before) = with_name name (done_by before)
+done_by (Wrote' name at len s before) = with_range (record { name = name; at = at; len = len }) (done_by before)
+done_by (Added' name bytes s before) = with_file name bytes.value.items (done_by before)
+
+-- what a disk in memory holds: the files as they read, and what was done since the last sync
+pub record Held : Type 0 where
+  pub files : Files
+  pub done : Done
+
+abbrev pub done_of : Now → Done
+done_of now = done_by now.since.value
+
+abbrev pub held_by : Now → Held
+held_by now = record { files = files_of now.files; done = done_of now }
+
+abbrev pub unsynced_in : Done → Unsynced
+unsynced_in d = record { synced = folder_of d.synced; renamed = d.renamed; written = d.written }
 
 abbrev pub unsynced_of : Now → Unsynced
-unsynced_of now = unsynced_in (held_by now)
+unsynced_of now = unsynced_in (done_of now)
 
 abbrev pub reads : Now → Folder
 reads now = folder_of (files_of now.files)
@@ -71,15 +120,13 @@ behind (Then' was p before) = held_by was.value ∷ behind before
 -- a crash at some moment behind, from the given one on, might have left this
 abbrev pub LeftBehind : List Held → ℕ → Folder → Type 0
 LeftBehind [] t image = ⊥
-LeftBehind (was ∷ before) t image = ((t ≤ length before) × IsImage (unsynced_in was) (folder_of was.files) image) ⊎ LeftBehind before t image
+LeftBehind (was ∷ before) t image = ((t ≤ length before) × IsImage (unsynced_in was.done) (folder_of was.files) image) ⊎ LeftBehind before t image
 
 -- `past` is what it held before each call that might change it, `failing` are the numbers of the calls that are to fail, `asked` is the number of calls since they were given, and
 -- `working` is how many calls are left before the disk stops, where it is to stop
 pub record MemState : Type 0 where
   pub files : Files
-  pub synced : Files
-  pub renamed : List (List ℕ)
-  pub written : List Range
+  pub done : Done
   pub past : List Held
   pub failing : List ℕ
   pub asked : ℕ
@@ -88,8 +135,11 @@ pub record MemState : Type 0 where
   pub faults : ℕ
   pub refusals : ℕ
 
+abbrev pub held_in : MemState → Held
+held_in s = record { files = s.files; done = s.done }
+
 abbrev pub unsynced : MemState → Unsynced
-unsynced s = record { synced = folder_of s.synced; renamed = s.renamed; written = s.written }
+unsynced s = unsynced_in s.done
 
 abbrev pub as_disk : MemState → DiskState
 as_disk s = record {
@@ -100,9 +150,9 @@ as_disk s = record {
   refusals = s.refusals;
 }
 
--- a disk that no file is on and no call was made of
-abbrev pub fresh : MemState
-fresh = record { files = []; synced = []; renamed = []; written = []; past = []; failing = []; asked = 0; working = None; calls = 0; faults = 0; refusals = 0 }
+-- a disk of which no call was made, with these files synced
+abbrev pub fresh : Files → MemState
+fresh files = record { files = files; done = settled files; past = []; failing = []; asked = 0; working = None; calls = 0; faults = 0; refusals = 0 }
 
 -- what is counted, and which calls are to fail
 pub record CallState : Type 0 where
@@ -147,3 +197,13 @@ pub record IsCall {T : Type 0} (old new : MemState) (result : Result T DiskErr) 
   pub fault : IsErrOf result Fault ↔ IsTrue (fails_next old)
   pub counts : Counts (as_disk old) (as_disk new) result
   pub idle : OnErr result (new.files ≡ old.files)
+
+-- this was done since the last sync, and a crash at the moment before may have left what was told then
+pub record Notes (done : Done) (old new : MemState) : Type 0 where
+  pub done_is : new.done ≡ done
+  pub behind : new.past ≡ held_in old ∷ old.past
+
+-- nothing more was done, and no moment passed
+pub record NotesNothing (old new : MemState) : Type 0 where
+  pub done_is : new.done ≡ old.done
+  pub behind : new.past ≡ old.past

@@ -1,6 +1,7 @@
 -- What reading a whole file gives.
 use Rattle.std.specs.Prelude.{◌≡◌, ℕ, ◌<◌, ◌≤◌, List, length, Option, Some, None, Result, IsErrOf}
-use Rattle.gs_disk.specs.Folder.{DiskState, Rises}
+use Rattle.gs_types.specs.Counts.{Caused}
+use Rattle.gs_disk.specs.Folder.{DiskState}
 use Rattle.gs_disk.specs.declared.disk.DiskErr.{DiskErr}
 use Rattle.gs_disk.specs.declared.disk.DiskErr.TheVariants.{Fault}
 use Rattle.gs_disk.specs.declared.whole.Whole.{Whole}
@@ -20,6 +21,5 @@ Carries limit old new (Read len) = (len ≡ length new) × (len ≤ limit)
 
 -- the counts don't fall, and a fault is one of the disk. Want of memory may be the reader's own
 pub record HasFault {T : Type 0} (old new : DiskState) (result : Result T DiskErr) : Type 0 where
-  pub faults_rise : old.faults ≤ new.faults
-  pub refusals_rise : old.refusals ≤ new.refusals
-  pub fault : IsErrOf result Fault → Rises old.faults new.faults
+  pub faults : Caused (IsErrOf result Fault) old.faults new.faults
+  pub refusals : old.refusals ≤ new.refusals

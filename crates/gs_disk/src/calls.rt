@@ -1,6 +1,6 @@
 // What a disk in memory counts, and which of its calls are to fail.
 ghost use Rattle.std.specs.Prelude.{◌≡◌, ◌≤◌, [], None, Some};
-ghost use Rattle.gs_disk.specs.Counts.{up};
+ghost use Rattle.gs_types.specs.Counts.{up};
 ghost use Rattle.gs_disk.specs.Mem.{counted, fails_after};
 ghost use Rattle.gs_disk.specs.declared.disk.DiskErr.TheVariants.{Memory};
 

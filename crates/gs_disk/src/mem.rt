@@ -1,15 +1,15 @@
 // A disk in memory.
 ghost use Rattle.std.specs.Prelude.{◌≡◌, ◌≤◌, ◌↔◌, ◌⊎◌, ℕ, List, [], ◌∷◌, length, None, Some, IfOk, IfSome, IsSome, OnOk, OnErr, IsErrOf, option_map, option_copied};
 ghost use Rattle.gs_disk.specs.Folder.{KeepsOthers, Tears, Same, overwritten, MayWrite, HasCause, IsRead, Rise, Has};
-ghost use Rattle.gs_disk.specs.Moments.{LeavesOnly, Passes, Remembers};
-ghost use Rattle.gs_disk.specs.Mem.{files_of, folder_of, unsynced, as_disk, fresh, IsCall};
+ghost use Rattle.gs_disk.specs.Moments.{LeavesOnly, EachNow, Passes, Remembers};
+ghost use Rattle.gs_disk.specs.Mem.{files_of, folder_of, as_disk, fresh, IsCall, unsynced, Puts, Notes, NotesNothing, settled, with_name, with_removal, with_range, with_file};
 ghost use Rattle.gs_disk.specs.Images.{IsImage};
 ghost use Rattle.gs_disk.specs.Crash.{IsKept};
 ghost use Rattle.gs_disk.specs.declared.disk.DiskErr.TheVariants.{Fault, Memory};
 ghost use Rattle.gs_disk.specs.declared.now.Past.TheVariants.{Then};
 
 use crate::calls::Calls;
-use crate::now::{Now, Past};
+use crate::now::{Now, Past, Since};
 use crate::{Disk, DiskErr, DiskName, Keep, crash, files, steps};
 use std::alloc::Global;
 use std::collections::BTreeMap;
@@ -28,16 +28,14 @@ pub struct MemDisk {
 }
 
 impl Model for MemDisk {
-    ghost use Rattle.gs_disk.specs.Mem.{MemState, files_of, names_of, ranges_of, behind};
+    ghost use Rattle.gs_disk.specs.Mem.{MemState, files_of, done_of, behind};
     ghost use Rattle.gs_disk.specs.Steps.{IsSound};
 
     ghost Value = { MemState };
 
     ghost view = { λ m. record {
       files = files_of m.held.files;
-      synced = files_of m.held.synced.value;
-      renamed = names_of m.held.touched.items;
-      written = ranges_of m.held.touched.items;
+      done = done_of m.held;
       past = behind m.past.value;
       failing = m.calls.failing;
       asked = m.calls.asked;
@@ -61,36 +59,38 @@ fn note(past: &mut Snapshot<Past>, was: Snapshot<Now>)
 impl MemDisk {
     /// An empty disk, synced, of which no call is to fail.
     pub fn new(alloc: Global) -> MemDisk
-        ensures { result ≡ fresh }
+        ensures { result ≡ fresh [] }
     {
         MemDisk::of(alloc, BTreeMap::new(alloc))
     }
 
     /// A disk with these files, synced.
     fn of(alloc: Global, files: BTreeMap<DiskName, Vec<u8>>) -> MemDisk
-        ensures { result ≡ record fresh { files = files_of files; synced = files_of files } }
+        ensures { result ≡ fresh (files_of files) }
     {
         MemDisk {
             alloc,
             held: Now {
-                synced: Snapshot::of(&files),
+                since: Snapshot::of(&Since::Synced(Snapshot::of(&files))),
                 files,
                 touched: Vec::new(alloc),
+                is_whole: true,
             },
             past: Snapshot::of(&Past::Start),
             calls: Calls::new(alloc),
         }
     }
 
-    /// Puts a file there, in place of one of that name, and brings all that reads to the disk. It counts no
-    /// call, and fails only with `Memory`; then nothing has changed.
+    /// Puts a synced file there, in place of one of that name: it reads so in every image from now on. What
+    /// was done to other names stays unsynced. It counts no call, and fails only with `Memory`; then nothing
+    /// has changed.
     pub fn add(&mut self, name: DiskName, bytes: &[u8]) -> Result<(), DiskErr>
-        ensures put { OnOk result (folder_of self.new.files name ≡ Some bytes.now) }
-        ensures others { KeepsOthers (name ∷ []) (folder_of self.old.files) (folder_of self.new.files) }
-        ensures synced { OnOk result (self.new.synced ≡ self.new.files) }
+        ensures put { OnOk result (Puts name (Some bytes.now) (folder_of self.old.files) (folder_of self.new.files)) }
+        ensures synced { OnOk result (EachNow (λ image. image name ≡ Some bytes.now) (as_disk self.new)) }
+        ensures noted { OnOk result (Notes (with_file name bytes.now self.old.done) self.old self.new) }
         ensures images { OnOk result (Passes (KeepsOthers (name ∷ [])) (as_disk self.old) (as_disk self.new)) }
-        ensures only { OnOk result (LeavesOnly (folder_of self.new.files) (as_disk self.new)) }
-        ensures rest { self.new ≡ record self.old { files = self.new.files; synced = self.new.synced; renamed = self.new.renamed; written = self.new.written; past = self.new.past } }
+        ensures remembers { OnOk result (Remembers (as_disk self.old) (as_disk self.new)) }
+        ensures rest { self.new ≡ record self.old { files = self.new.files; done = self.new.done; past = self.new.past } }
         ensures refused { OnErr result (self.new ≡ self.old) }
         ensures memory { IsErrOf result Fault → ⊥ }
     {
@@ -98,10 +98,9 @@ impl MemDisk {
             return Err(DiskErr::Memory);
         };
         let was = Snapshot::of(&self.held);
-        if let Err(_) = files::put(&mut self.held.files, name, copy) {
+        if let Err(_) = steps::add(&mut self.held, name, copy) {
             return Err(DiskErr::Memory);
         }
-        steps::sync(&mut self.held);
         note(&mut self.past, was);
         Ok(())
     }
@@ -109,19 +108,24 @@ impl MemDisk {
     /// An image that a crash may leave, as a synced disk on which no call was made and none is to fail. With
     /// `Keep::Nothing` it is the folder at the last sync, with `Keep::All` the folder as it reads. With
     /// `Keep::Byte` each name that was created or removed since has the one byte, and each other file its
-    /// length as it reads, with that byte wherever it was written since. It fails only with `Memory`.
+    /// length as it reads, with that byte wherever it was written since. It fails only with `Memory`, also
+    /// where a call since the last sync found no memory to keep what it changed.
     pub fn crash(self, keep: Keep) -> Result<MemDisk, DiskErr>
         ensures kept { IfOk result (λ left. IsKept keep (unsynced self) (folder_of self.files) (folder_of left.files)) }
         ensures image { IfOk result (λ left. IsImage (unsynced self) (folder_of self.files) (folder_of left.files)) }
-        ensures synced { IfOk result (λ left. left ≡ record fresh { files = left.files; synced = left.files }) }
+        ensures synced { IfOk result (λ left. left ≡ fresh left.files) }
         ensures memory { IsErrOf result Fault → ⊥ }
     {
         let MemDisk { alloc, held, .. } = self;
         let Now {
             mut files,
             touched,
+            is_whole,
             ..
         } = held;
+        if !is_whole {
+            return Err(DiskErr::Memory);
+        }
         match crash::leave(alloc, &mut files, touched, keep) {
             Ok(()) => Ok(MemDisk::of(alloc, files)),
             Err(_) => Err(DiskErr::Memory),
@@ -176,6 +180,7 @@ impl Disk for MemDisk {
         ensures remembers { Remembers (as_disk self.old) (as_disk self.new) }
         ensures cause { HasCause (as_disk self.old) (as_disk self.new) result }
         ensures call { IsCall self.old self.new result }
+        ensures noted { NotesNothing self.old self.new }
         ensures memory { IsErrOf result Memory → ⊥ }
     {
         if self.calls.is_failing() {
@@ -192,6 +197,7 @@ impl Disk for MemDisk {
         ensures remembers { Remembers (as_disk self.old) (as_disk self.new) }
         ensures cause { HasCause (as_disk self.old) (as_disk self.new) result }
         ensures call { IsCall self.old self.new result }
+        ensures noted { NotesNothing self.old self.new }
         ensures idle { OnErr result (buf.new ≡ buf.old) }
         ensures memory { IsErrOf result Memory → ⊥ }
     {
@@ -208,6 +214,7 @@ impl Disk for MemDisk {
         ensures remembers { Remembers (as_disk self.old) (as_disk self.new) }
         ensures cause { HasCause (as_disk self.old) (as_disk self.new) result }
         ensures call { IsCall self.old self.new result }
+        ensures noted { Notes (with_name name.now self.old.done) self.old self.new }
     {
         let was = Snapshot::of(&self.held);
         let fails = self.calls.is_failing();
@@ -230,6 +237,7 @@ impl Disk for MemDisk {
         ensures remembers { Remembers (as_disk self.old) (as_disk self.new) }
         ensures cause { HasCause (as_disk self.old) (as_disk self.new) result }
         ensures call { IsCall self.old self.new result }
+        ensures noted { Notes (with_range (record { name = name.now; at = at; len = length bytes.now }) self.old.done) self.old self.new }
     {
         let was = Snapshot::of(&self.held);
         let fails = self.calls.is_failing();
@@ -253,18 +261,17 @@ impl Disk for MemDisk {
         ensures remembers { Remembers (as_disk self.old) (as_disk self.new) }
         ensures cause { HasCause (as_disk self.old) (as_disk self.new) result }
         ensures call { IsCall self.old self.new result }
+        ensures noted { Notes (with_removal name.now (folder_of self.old.files name.now) self.old.done) self.old self.new }
+        ensures memory { IsErrOf result Memory → ⊥ }
     {
         let was = Snapshot::of(&self.held);
         let fails = self.calls.is_failing();
-        let done = steps::remove(self.alloc, &mut self.held, name, !fails);
+        steps::remove(self.alloc, &mut self.held, name, !fails);
         note(&mut self.past, was);
         if fails {
             return Err(DiskErr::Fault);
         }
-        match done {
-            Ok(()) => Ok(()),
-            Err(_) => Err(self.calls.refuse()),
-        }
+        Ok(())
     }
 
     fn names(&mut self, alloc: Global) -> Result<Vec<DiskName>, DiskErr>
@@ -275,6 +282,7 @@ impl Disk for MemDisk {
         ensures remembers { Remembers (as_disk self.old) (as_disk self.new) }
         ensures cause { HasCause (as_disk self.old) (as_disk self.new) result }
         ensures call { IsCall self.old self.new result }
+        ensures noted { NotesNothing self.old self.new }
     {
         if self.calls.is_failing() {
             return Err(DiskErr::Fault);
@@ -292,14 +300,16 @@ impl Disk for MemDisk {
         ensures remembers { Remembers (as_disk self.old) (as_disk self.new) }
         ensures cause { HasCause (as_disk self.old) (as_disk self.new) result }
         ensures call { IsCall self.old self.new result }
+        ensures noted { OnOk result (Notes (settled self.old.files) self.old self.new) }
+        ensures failed { OnErr result (NotesNothing self.old self.new) }
         ensures memory { IsErrOf result Memory → ⊥ }
     {
-        if self.calls.is_failing() {
-            return Err(DiskErr::Fault);
+        if !self.calls.is_failing() {
+            let was = Snapshot::of(&self.held);
+            steps::sync(&mut self.held);
+            note(&mut self.past, was);
+            return Ok(());
         }
-        let was = Snapshot::of(&self.held);
-        steps::sync(&mut self.held);
-        note(&mut self.past, was);
-        Ok(())
+        Err(DiskErr::Fault)
     }
 }

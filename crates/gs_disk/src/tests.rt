@@ -127,6 +127,55 @@ fn a_crash_leaves_what_is_to_be_kept(rt: HostRuntime) -> Result<(), Fail> {
     Ok(())
 }
 
+/// What a crash leaves of the synced `abc` where its removal was the first call that didn't work.
+fn left_of_removal(alloc: Global, keep: Keep) -> Result<MemDisk, DiskErr> {
+    let a = DiskName::of(b"a");
+    let mut disk = MemDisk::new(alloc);
+    disk.add(a.copy(), b"abc")?;
+    disk.stop_after(0);
+    let _ = disk.remove(&a);
+    disk.crash(keep)
+}
+
+#[test]
+fn a_stopped_removal_may_have_been_done(rt: HostRuntime) -> Result<(), Fail> {
+    let alloc = rt.alloc();
+    let a = DiskName::of(b"a");
+    assert!(rt; left_of_removal(alloc, Keep::Nothing)?.get(&a) == Some(b"abc"));
+    assert!(rt; left_of_removal(alloc, Keep::All)?.get(&a) == Some(b"abc"));
+    assert!(rt; left_of_removal(alloc, Keep::Byte { b: 7 })?.get(&a) == Some(b"\x07"));
+    Ok(())
+}
+
+#[test]
+fn a_failed_sync_settles_nothing(rt: HostRuntime) -> Result<(), Fail> {
+    let alloc = rt.alloc();
+    let mut disk = half_synced(alloc)?;
+    disk.fail_at(vec![in alloc; 1]?);
+    assert_eq!(rt; disk.sync(), Err(DiskErr::Fault));
+    let left = disk.crash(Keep::Nothing)?;
+    assert!(rt; left.get(&DiskName::of(b"a")) == Some(b"abc"));
+    assert!(rt; left.get(&DiskName::of(b"b")) == None);
+    Ok(())
+}
+
+#[test]
+fn a_file_that_is_added_settles_no_other(rt: HostRuntime) -> Result<(), Fail> {
+    let alloc = rt.alloc();
+    let (a, b) = (DiskName::of(b"a"), DiskName::of(b"b"));
+    for (keep, want) in [
+        (Keep::Nothing, b"abc".as_slice()),
+        (Keep::All, b"aXYZ"),
+        (Keep::Byte { b: 7 }, b"a\x07\x07\x07"),
+    ] {
+        let mut disk = half_synced(alloc)?;
+        disk.add(b.copy(), b"new")?;
+        let left = disk.crash(keep)?;
+        assert!(rt; left.get(&a) == Some(want) && left.get(&b) == Some(b"new"));
+    }
+    Ok(())
+}
+
 #[test]
 fn a_stop_leaves_a_call_in_progress(rt: HostRuntime) -> Result<(), Fail> {
     let alloc = rt.alloc();

@@ -1,5 +1,6 @@
 // Reading a whole file.
 ghost use Rattle.std.specs.Prelude.{◌≡◌, IfOk, OnErr};
+ghost use Rattle.gs_types.specs.Bytes.{IsBytes};
 ghost use Rattle.gs_disk.specs.Folder.{Same};
 ghost use Rattle.gs_disk.specs.Moments.{Passes};
 ghost use Rattle.gs_disk.specs.Whole.{IsWhole, Carries, HasFault};
@@ -31,6 +32,7 @@ pub fn read_whole<D: Disk>(
     ensures same { D.tells → (D.state disk.new).folder ≡ (D.state disk.old).folder }
     ensures images { D.tells → Passes Same (D.state disk.old) (D.state disk.new) }
     ensures carries { IfOk result (λ w. Carries limit into.old.items into.new.items w) }
+    ensures bytes { IsBytes into.new.items }
     ensures refused { OnErr result (into.new.items ≡ into.old.items) }
     ensures cause { HasFault (D.state disk.old) (D.state disk.new) result }
 {

@@ -5,11 +5,11 @@ use Rattle.gs_idl.specs.Interface.{Signature, Param, op_place, params_at}
 use Rattle.gs_tree.specs.Program.{Passed}
 use Rattle.gs_tree.specs.View.{passed_of}
 use Rattle.gs_tree.specs.declared.tree.Argument.{Argument}
-use Rattle.gs_form.specs.Named.{is_name}
+use Rattle.gs_types.specs.NameTest.{is_name}
 use Rattle.gs_form.specs.Straight.{and_first, named, place_for, places_for, step_by, step_at, is_sound}
 use Rattle.gs_form.specs.declared.program.Place.{Place}
 use Rattle.gs_check.proofs.Calling.{param_at, passed_at}
-use Rattle.gs_form.proofs.WordLaws.{name_gives, bad_name}
+use Rattle.gs_types.specs.NameTest.{name_gives, bad_name}
 
 -- these items, and then the others where they are there
 abbrev pub before : {A : Type 0} → List A → Option (List A) → Option (List A)

@@ -10,7 +10,7 @@ use Rattle.gs_types.specs.Name.{IsName}
 use Rattle.gs_form.specs.declared.worker.Worker.{Worker}
 use Rattle.gs_form.specs.Worker.{worker_text, IsWorker, SaysWorker}
 use Rattle.gs_form.specs.Format.{Format, byte_at, lit, after, word, pair}
-use Rattle.gs_form.specs.Named.{is_name}
+use Rattle.gs_types.specs.NameTest.{is_name}
 use Rattle.gs_form.specs.Forms.{IsPath, is_path, slots_at, slots, put_worker, get_worker, worker, ended_by_line, whole_line}
 use Rattle.gs_form.proofs.Laws.{Law, Takes, some_is, bind_some, kept_is, lit_law, after_law, pair_law, seen_law}
 use Rattle.gs_form.proofs.FormLaws.{name_word, path_word}

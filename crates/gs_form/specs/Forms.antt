@@ -4,7 +4,7 @@ use Rattle.std.specs.List.{All, list_all}
 use Rattle.std.specs.Str.{bytes_eq}
 use lib.Chars.{codes}
 use Rattle.gs_types.specs.Name.{IsName}
-use Rattle.gs_form.specs.Named.{is_name}
+use Rattle.gs_types.specs.NameTest.{is_name}
 use Rattle.gs_form.specs.declared.worker.Worker.{Worker}
 use Rattle.gs_form.specs.Format.{Format, ◌>>=◌, byte_at, lit, after, word, pair, seen}
 

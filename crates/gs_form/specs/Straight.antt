@@ -8,7 +8,7 @@ use Rattle.gs_idl.specs.declared.idl.Dir.TheVariants.{Input, Both, Output}
 use Rattle.gs_idl.specs.declared.idl.ParamKind.{ParamKind}
 use Rattle.gs_idl.specs.declared.idl.ParamKind.TheVariants as kind
 use Rattle.gs_tree.specs.Program.{Name, Term, num, lit, var, atoi, strcmp, neg, not_, two, Passed, Code, empty, block, set, choose, while, for, open_file, read_line, close_file, barrier, print, print_file, print_str, call, Codes, none, one, Program}
-use Rattle.gs_form.specs.Named.{is_name}
+use Rattle.gs_types.specs.NameTest.{is_name}
 use Rattle.gs_form.specs.declared.program.Way.{Way}
 use Rattle.gs_form.specs.declared.program.Way.TheVariants.{Reads, Changes, Makes}
 use Rattle.gs_form.specs.declared.program.Place.{Place}

@@ -1,6 +1,6 @@
 // Names.
 ghost use Rattle.std.specs.Prelude.{◌≡◌};
-ghost use Rattle.gs_form.specs.Named.{is_name};
+ghost use Rattle.gs_types.specs.NameTest.{is_name};
 ghost use Rattle.gs_form.specs.Format.{word_at};
 ghost use Rattle.gs_form.specs.Gives.{Has};
 

@@ -4,7 +4,7 @@ use Rattle.std.specs.Prelude.{IsSome}
 use Rattle.gs_disk.specs.Folder.{Folder, DiskState, KeepsOthers, Torn, TornFile, Tears, MayWrite, overwritten}
 use Rattle.gs_disk.specs.Moments.{Leaves, Passes, LeavesOnly, EachNow, Always}
 use Rattle.gs_disk.specs.Going.{always_started, always_goes_on}
-use Rattle.gs_log.specs.Names.{log_name, mark_name}
+use Rattle.gs_log.specs.Names.{log_name, mark_name, mark_is_not_log}
 use Rattle.gs_log.specs.Grammar.{IsLog, records}
 use Rattle.gs_log.specs.Fits.{Fits}
 use Rattle.gs_log.specs.Holding.{Holds, IsBeforeOrAfter}
@@ -20,12 +20,8 @@ written_file at bytes was old new is wrote = subst (λ (o : Option (List ℕ)). 
 may_write : (at k : ℕ) (file : Option (List ℕ)) (bytes : List ℕ) → file ≡ Some bytes → at ≤ length bytes → at + k ≤ 2 ^ 40 → MayWrite at k file
 may_write at k file bytes is le fits = subst (MayWrite at k) (sym is) (le, fits)
 
--- the mark is another file
-apart : mark_name ≡ log_name → ⊥
-apart same = cc
-
 kept_mark : (f g : Folder) → KeepsOthers (log_name ∷ []) f g → IsSome (f mark_name) → IsSome (g mark_name)
-kept_mark f g kept marked = subst (λ (o : Option (List ℕ)). IsSome o) (sym (kept.each mark_name (apart, tt))) marked
+kept_mark f g kept marked = subst (λ (o : Option (List ℕ)). IsSome o) (sym (kept.each mark_name (mark_is_not_log, tt))) marked
 
 module _ (list : List (List ℕ)) (payload : List ℕ) (end : ℕ) (fits : Fits list end) (small : length payload ≤ 33554432) (room : length list < 32767) where
   shut_log : (bytes : List ℕ) → IsLog list bytes → Shut (records list) bytes

@@ -4,15 +4,9 @@ use Rattle.std.specs.Prelude.{IsSome}
 use Rattle.gs_disk.specs.Folder.{Folder, DiskState, KeepsOthers, Tears, Same, overwritten}
 use Rattle.gs_disk.specs.Moments.{Leaves, Passes, LeavesOnly, EachNow, Always}
 use Rattle.gs_disk.specs.Going.{always_started, always_goes_on, always_same, always_wider}
-use Rattle.gs_log.specs.Names.{log_name, mark_name}
+use Rattle.gs_log.specs.Names.{log_name, mark_name, mark_is_not_log, log_is_not_mark}
 use Rattle.gs_log.specs.Grammar.{IsLog}
 use Rattle.gs_log.specs.Holding.{Holds, IsNoneOrEmpty}
-
-mark_apart : mark_name ≡ log_name → ⊥
-mark_apart same = cc
-
-log_apart : log_name ≡ mark_name → ⊥
-log_apart same = cc
 
 empty_log : IsLog [] (0 ∷ [])
 empty_log = record { few = omega arith; spelled = (0, [], (λ same. absurd (omega arith)), refl) }
@@ -22,7 +16,7 @@ abbrev pub IsBare : Folder → Type 0
 IsBare image = image mark_name ≡ None
 
 pub holds_empty : (f g : Folder) → f log_name ≡ Some (0 ∷ []) → KeepsOthers (mark_name ∷ []) f g → IsSome (g mark_name) → Holds [] g
-holds_empty f g logged kept marked = record { marked = marked; bytes = 0 ∷ []; file = kept.each log_name (log_apart, tt) ∙ logged; log = empty_log }
+holds_empty f g logged kept marked = record { marked = marked; bytes = 0 ∷ []; file = kept.each log_name (log_is_not_mark, tt) ∙ logged; log = empty_log }
 
 pub logged : (f g h : Folder) → f log_name ≡ Some [] → IfSome (f log_name) (λ old. g log_name ≡ Some (overwritten 0 (0 ∷ []) old)) → h ≡ g → h log_name ≡ Some (0 ∷ [])
 logged f g h made wrote same = ap (λ (k : Folder). k log_name) same ∙ subst (λ (o : Option (List ℕ)). IfSome o (λ v. g log_name ≡ Some (overwritten 0 (0 ∷ []) v))) made wrote
@@ -33,10 +27,10 @@ some_or (Some v) = inr refl
 
 module _ (s0 : DiskState) (unmarked : EachNow (λ image. image mark_name ≡ None) s0) where
   pub bare_made : (a : DiskState) → Passes (KeepsOthers (log_name ∷ [])) s0 a → Always IsBare s0 a
-  bare_made a p = always_goes_on IsBare (KeepsOthers (log_name ∷ [])) s0 s0 a (always_started IsBare s0 unmarked) p (λ f g left none kept. kept.each mark_name (mark_apart, tt) ∙ none)
+  bare_made a p = always_goes_on IsBare (KeepsOthers (log_name ∷ [])) s0 s0 a (always_started IsBare s0 unmarked) p (λ f g left none kept. kept.each mark_name (mark_is_not_log, tt) ∙ none)
 
   pub bare_wrote : (k n : ℕ) (a b : DiskState) → Always IsBare s0 a → Passes (Tears log_name k n) a b → Always IsBare s0 b
-  bare_wrote k n a b so_far p = always_goes_on IsBare (Tears log_name k n) s0 a b so_far p (λ f g left none t. t.others.each mark_name (mark_apart, tt) ∙ none)
+  bare_wrote k n a b so_far p = always_goes_on IsBare (Tears log_name k n) s0 a b so_far p (λ f g left none t. t.others.each mark_name (mark_is_not_log, tt) ∙ none)
 
   pub bare_synced : (a b : DiskState) → Always IsBare s0 a → Passes Same a b → Always IsBare s0 b
   bare_synced a b so_far p = always_same IsBare s0 a b so_far p

@@ -2,3 +2,4 @@ pub mod Append
 pub mod Blocks
 pub mod Create
 pub mod Records
+pub mod Kept

@@ -1,11 +1,9 @@
 -- A log's bytes as records and a closed gate.
-use Rattle.std.proofs.Common.{◌≡◌, ◌≢◌, ◌⊎◌, inl, inr, ℕ, zero, suc, ◌+◌, ◌*◌, ◌<◌, ◌≤◌, List, [], ◌∷◌, ◌++◌, length, get_or, take, drop, take_all, length-take-le, length-drop, ◌-◌, refl, sym, ◌∙◌, ap, subst, arith, append_assoc, length-append, take-append-drop}
-use Rattle.std.proofs.Common.{Vec, map}
-use Rattle.std.specs.declared.alloc.Global.{Global}
+use Rattle.std.proofs.Common.{◌≡◌, ◌≢◌, ◌⊎◌, inr, ℕ, zero, suc, ◌+◌, ◌*◌, ◌<◌, ◌≤◌, List, [], ◌∷◌, ◌++◌, length, get_or, take, drop, take_all, length-take-le, length-drop, ◌-◌, refl, sym, ◌∙◌, ap, arith, append_assoc, length-append, take-append-drop}
 use Rattle.std.specs.Int.{w32, to_le_bytes, from_le_bytes}
-use Rattle.std.proofs.lemmas.List.{take_at, drop_at, drop_more, append-nil}
-use Rattle.std.proofs.lemmas.Nat.{from_le_bytes-to_le_bytes_4, le_bytes_4}
-use Rattle.gs_log.specs.Grammar.{Spells, IsLog, records, AreSmall, Begins, Breaks, BreaksAt}
+use Rattle.std.proofs.lemmas.List.{drop_at, drop_more, append-nil}
+use Rattle.std.proofs.lemmas.Nat.{le_bytes_4}
+use Rattle.gs_log.specs.Grammar.{Spells, IsLog, records, AreSmall, Begins, BreaksAt}
 use Rattle.gs_log.specs.Fits.{Fits}
 use Rattle.gs_log.proofs.Blocks.{Shut}
 
@@ -128,78 +126,8 @@ breaks_at list bytes at is place within few small gate why = record {
   breaks = inr (drop (at + 1) bytes, drop_more bytes at 0 within ∙ ap (λ (g : ℕ). g ∷ drop (at + 1) bytes) gate, why);
 }
 
--- a log has one list
-
-split : (a b c d : List ℕ) → length a ≡ length b → a ++ c ≡ b ++ d → (a ≡ b) × (c ≡ d)
-split a b c d size same = (
-  sym (take_at a c (length b) size) ∙ ap (λ (l : List ℕ). take (length b) l) same ∙ take_at b d (length b) refl,
-  sym (drop_at a c (length b) size) ∙ ap (λ (l : List ℕ). drop (length b) l) same ∙ drop_at b d (length b) refl,
-)
-
-same_record : (p q l m : List ℕ) → length p ≤ 33554432 → length q ≤ 33554432 → 1 ∷ (to_le_bytes w32 (length p) ++ p ++ l) ≡ 1 ∷ (to_le_bytes w32 (length q) ++ q ++ m) → (p ≡ q) × (l ≡ m)
-same_record p q l m one two same =
-    let tails : to_le_bytes w32 (length p) ++ (p ++ l) ≡ to_le_bytes w32 (length q) ++ (q ++ m) = cc in
-    let heads = split (to_le_bytes w32 (length p)) (to_le_bytes w32 (length q)) (p ++ l) (q ++ m) refl tails in
-    let size : length p ≡ length q = sym (from_le_bytes-to_le_bytes_4 (length p) (omega arith)) ∙ ap (λ (b : List ℕ). from_le_bytes w32 b) heads.0 ∙ from_le_bytes-to_le_bytes_4 (length q) (omega arith) in
-    split p q l m size heads.1
-
-some_head : (g : ℕ) (x y : List ℕ) → g ∷ x ≡ 1 ∷ y → g ≡ 1
-some_head g x y e = cc
-
-none_head : (g : ℕ) (x : List ℕ) → [] ≡ g ∷ x → ⊥
-none_head g x e = cc
-
-pub one : (a b : List (List ℕ)) (bytes : List ℕ) → Spells a bytes → Spells b bytes → a ≡ b
-one [] [] bytes s t = refl
-one [] (q ∷ b) bytes s t = absurd (s.2 (some_head s.0 s.1 _ (sym s.3 ∙ t.2)))
-one (p ∷ a) [] bytes s t = absurd (t.2 (some_head t.0 t.1 _ (sym t.3 ∙ s.2)))
-one (p ∷ a) (q ∷ b) bytes s t =
-    let same = same_record p q s.0 t.0 s.1 t.1 (sym s.2 ∙ t.2) in
-    let rest : a ≡ b = one a b t.0 (subst (Spells a) same.1 s.3) t.3 in
-    λ i. same.0 i ∷ rest i
-
--- what is behind these records is a log of the other payloads
-strip : (before list : List (List ℕ)) (bytes rest : List ℕ) → Spells list bytes → AreSmall before → bytes ≡ records before ++ rest → (left : List (List ℕ)) × (length list ≡ length before + length left) × Spells left rest
-strip [] list bytes rest s small is = (list, omega arith, subst (Spells list) is s)
-strip (p ∷ before) [] bytes rest s small is = absurd (s.2 (some_head s.0 s.1 _ (sym s.3 ∙ is)))
-strip (p ∷ before) (q ∷ list) bytes rest s small is =
-    let same = same_record q p s.0 (records before ++ rest) s.1 small.0 (sym s.2 ∙ is ∙ ap (λ (l : List ℕ). 1 ∷ l) (append_assoc (to_le_bytes w32 (length p)) (p ++ records before) rest ∙ ap (λ (l : List ℕ). to_le_bytes w32 (length p) ++ l) (append_assoc p (records before) rest))) in
-    let more = strip before list s.0 rest s.3 small.1 same.1 in
-    (more.0, omega (arith, more.1), more.2)
-
-not_empty : (list : List (List ℕ)) (bytes : List ℕ) → Spells list bytes → 1 ≤ length bytes
-not_empty [] bytes s = omega (arith, ap length s.3)
-not_empty (p ∷ list) bytes s = omega (arith, ap length s.2)
-
-ends_here : (left : List (List ℕ)) (n : ℕ) (rest : List ℕ) → n + length left ≤ 32767 → Spells left rest → Breaks n rest → ⊥
-ends_here [] n rest few s (inl none) = none_head s.0 s.1 (sym none.1 ∙ s.3)
-ends_here (q ∷ left) n rest few s (inl none) = none_head 1 _ (sym none.1 ∙ s.2)
-ends_here [] n rest few s (inr (behind, is, why)) = s.2 (some_head s.0 s.1 behind (sym s.3 ∙ is))
-ends_here (q ∷ left) n rest few s (inr (behind, is, inl full)) = absurd (omega arith)
-ends_here (q ∷ left) n rest few s (inr (behind, is, inr none)) = none q (record { small = s.1; log = s.0; follows = not_empty left s.0 s.3; is = tail_of (sym is ∙ s.2) })
-  where
-    tail_of : {x y : List ℕ} → 1 ∷ x ≡ 1 ∷ y → x ≡ y
-    tail_of e = cc
-
-pub no_log : (list : List (List ℕ)) (bytes : List ℕ) (at : ℕ) → IsLog list bytes → BreaksAt bytes at → ⊥
-no_log list bytes at log b =
-    let left = strip b.before list bytes b.rest log.spelled b.small b.is in
-    ends_here left.0 (length b.before) b.rest (omega (arith, left.1, log.few)) left.2 b.breaks
-
 pub rest_of : (bytes : List ℕ) (at : ℕ) → take (length bytes - at) (drop at bytes) ≡ drop at bytes
 rest_of bytes at = take_all (length bytes - at) (drop at bytes) (omega (arith, length-drop at bytes))
-
--- the lists of some vectors
-pub views_few : (vs : List (Vec ℕ Global)) → length vs ≤ 32767 → length (map {B = List ℕ} (λ v. v.items) vs) ≤ 32767
-views_few vs few = omega (arith, few, views_length vs)
-  where
-    views_length : (vs : List (Vec ℕ Global)) → length (map {B = List ℕ} (λ v. v.items) vs) ≡ length vs
-    views_length [] = refl
-    views_length (v ∷ vs) = omega (arith, views_length vs)
-
-pub views_push : (vs : List (Vec ℕ Global)) (v : Vec ℕ Global) → map {B = List ℕ} (λ v. v.items) (vs ++ v ∷ []) ≡ map {B = List ℕ} (λ v. v.items) vs ++ v.items ∷ []
-views_push [] v = refl
-views_push (w ∷ vs) v = ap (λ (l : List (List ℕ)). w.items ∷ l) (views_push vs v)
 
 pub length-push : (list : List (List ℕ)) (payload : List ℕ) → length (list ++ payload ∷ []) ≡ length list + 1
 length-push list payload = length-append list (payload ∷ [])

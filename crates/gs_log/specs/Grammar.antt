@@ -5,16 +5,17 @@
 -- `closed` is one byte other than 1, followed by any bytes. `len` is four bytes, the lowest first, and `payload` has that
 -- many bytes, at most 2^25. A log has at most 32,767 records.
 use Rattle.std.specs.Prelude.{◌≡◌, ◌≢◌, ◌⊎◌, ℕ, ◌≤◌, List, [], ◌∷◌, ◌++◌, length, Option, MatchOption}
+use Rattle.gs_log.specs.declared.limits.TheConstants.{MAX_PAYLOAD, MAX_RECORDS}
 use Rattle.std.specs.Int.{w32, to_le_bytes}
 
 -- the bytes are spelled by these payloads
 abbrev pub Spells : List (List ℕ) → List ℕ → Type 0
 Spells [] bytes = (gate : ℕ) × (behind : List ℕ) × (gate ≢ 1) × (bytes ≡ gate ∷ behind)
-Spells (payload ∷ payloads) bytes = (log : List ℕ) × (length payload ≤ 33554432) × (bytes ≡ 1 ∷ (to_le_bytes w32 (length payload) ++ payload ++ log)) × Spells payloads log
+Spells (payload ∷ payloads) bytes = (log : List ℕ) × (length payload ≤ MAX_PAYLOAD) × (bytes ≡ 1 ∷ (to_le_bytes w32 (length payload) ++ payload ++ log)) × Spells payloads log
 
 -- the bytes are a log with this list
 pub record IsLog (list : List (List ℕ)) (bytes : List ℕ) : Type 0 where
-  pub few : length list ≤ 32767
+  pub few : length list ≤ MAX_RECORDS
   pub spelled : Spells list bytes
 
 -- open records of these payloads
@@ -25,25 +26,25 @@ records (payload ∷ payloads) = 1 ∷ (to_le_bytes w32 (length payload) ++ payl
 -- none of them is too long
 abbrev pub AreSmall : List (List ℕ) → Type 0
 AreSmall [] = Unit {0}
-AreSmall (payload ∷ payloads) = (length payload ≤ 33554432) × AreSmall payloads
+AreSmall (payload ∷ payloads) = (length payload ≤ MAX_PAYLOAD) × AreSmall payloads
 
 -- a whole record of this payload begins behind an open gate, and some byte follows
 pub record Begins (payload behind : List ℕ) : Type 0 where
-  pub small : length payload ≤ 33554432
+  pub small : length payload ≤ MAX_PAYLOAD
   pub log : List ℕ
   pub follows : 1 ≤ length log
   pub is : behind ≡ to_le_bytes w32 (length payload) ++ payload ++ log
 
 -- behind n records there is no log: it is empty, or an open gate, with too many records before it or with no whole record
 abbrev pub Breaks : ℕ → List ℕ → Type 0
-Breaks n bytes = ((n ≡ 0) × (bytes ≡ [])) ⊎ ((behind : List ℕ) × (bytes ≡ 1 ∷ behind) × ((n ≡ 32767) ⊎ ((payload : List ℕ) → Begins payload behind → ⊥)))
+Breaks n bytes = ((n ≡ 0) × (bytes ≡ [])) ⊎ ((behind : List ℕ) × (bytes ≡ 1 ∷ behind) × ((n ≡ MAX_RECORDS) ⊎ ((payload : List ℕ) → Begins payload behind → ⊥)))
 
 -- the bytes are no log, and the gate of the first record that doesn't fit is at this place
 pub record BreaksAt (bytes : List ℕ) (at : ℕ) : Type 0 where
   pub before : List (List ℕ)
   pub rest : List ℕ
   pub is : bytes ≡ records before ++ rest
-  pub few : length before ≤ 32767
+  pub few : length before ≤ MAX_RECORDS
   pub small : AreSmall before
   pub place : at ≡ length (records before)
   pub breaks : Breaks (length before) rest

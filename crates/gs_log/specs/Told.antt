@@ -1,6 +1,7 @@
 -- Which error comes when.
 use Rattle.std.specs.Prelude.{◌≡◌, ℕ, ◌≤◌, List, None, IsSome, Result, IsErrOf}
-use Rattle.gs_disk.specs.Folder.{Folder, DiskState, Rises}
+use Rattle.gs_types.specs.Counts.{Caused}
+use Rattle.gs_disk.specs.Folder.{Folder, DiskState}
 use Rattle.gs_disk.specs.declared.disk.DiskErr.{DiskErr}
 use Rattle.gs_disk.specs.declared.disk.DiskErr.TheVariants.{Fault, Memory}
 use Rattle.gs_log.specs.Names.{log_name, mark_name}
@@ -28,9 +29,8 @@ IsOutside NoMemory = Unit {0}
 
 -- the disk's counts don't fall, and a fault is one of the disk. Want of memory may be the log's own
 pub record HasCause {T : Type 0} (old new : DiskState) (result : Result T LogErr) : Type 0 where
-  pub faults_rise : old.faults ≤ new.faults
-  pub refusals_rise : old.refusals ≤ new.refusals
-  pub fault : IsErrOf result DiskFault → Rises old.faults new.faults
+  pub faults : Caused (IsErrOf result DiskFault) old.faults new.faults
+  pub refusals : old.refusals ≤ new.refusals
 
 -- what bytes are where reading them gives this error
 abbrev pub RefusesBytes : List ℕ → LogErr → Type 0

@@ -1,14 +1,15 @@
 // The bytes of a record.
-ghost use Rattle.std.specs.Prelude.{◌≡◌, ◌++◌, ◌≤◌, [], ◌∷◌, ℕ, List, length, IfOk, MatchOption};
+ghost use Rattle.std.specs.Prelude.{◌≡◌, ◌++◌, ◌+◌, ◌≤◌, [], ◌∷◌, ℕ, List, length, take, drop, IfOk, MatchOption};
 ghost use Rattle.std.specs.Int.{w32, to_le_bytes};
+ghost use Rattle.gs_types.specs.Bytes.{IsBytes};
 ghost use Rattle.gs_log.specs.Grammar.{Begins};
 
-use crate::log::MAX_PAYLOAD;
+use crate::MAX_PAYLOAD;
 use std::alloc::{AllocError, Global};
 
 /// What stands behind the gate of a record: its length, its payload and the next gate, closed.
 pub fn closed_record(alloc: Global, payload: &[u8]) -> Result<Vec<u8>, AllocError>
-    requires { length payload.now ≤ 33554432 }
+    requires { length payload.now ≤ MAX_PAYLOAD }
     ensures { IfOk result (λ made. made.items ≡ (to_le_bytes w32 (length payload.now) ++ payload.now) ++ 0 ∷ []) }
 {
     let mut closed = Vec::with_capacity(alloc, payload.len() + 5)?;
@@ -31,4 +32,14 @@ pub fn first_payload(behind: &[u8]) -> Option<&[u8]>
         return None;
     }
     Some(&rest[..len])
+}
+
+/// So many bytes of a piece, from `start` on.
+pub fn part(piece: &[u8], start: usize, len: usize) -> &[u8]
+    requires { start + len ≤ length piece.now }
+    ensures value { result.now ≡ take len (drop start piece.now) }
+    ensures bytes { IsBytes result.now }
+{
+    let rest = &piece[start..];
+    &rest[..len]
 }

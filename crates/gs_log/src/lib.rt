@@ -5,14 +5,17 @@
 mod bytes;
 mod err;
 mod laws;
+mod limits;
 mod log;
 mod names;
+mod place;
 mod reading;
 mod steps;
 
 pub use err::LogErr;
-pub use laws::one_list;
-pub use log::{Log, MAX_PAYLOAD, MAX_RECORDS};
+pub use laws::{one_list, one_list_held};
+pub use limits::{MAX_PAYLOAD, MAX_RECORDS};
+pub use log::Log;
 
 #[cfg(test)]
 mod tests;

@@ -3,45 +3,46 @@ ghost use Rattle.std.specs.Prelude.{◌≡◌, ◌<◌, ◌≤◌, ◌++◌, ◌
 ghost use Rattle.std.specs.Int.{w32, to_le_bytes};
 ghost use Rattle.gs_disk.specs.Folder.{Folder, KeepsOthers, Same};
 ghost use Rattle.gs_disk.specs.Moments.{Passes, LeavesOnly, EachNow, Always};
+ghost use Rattle.gs_types.specs.Bytes.{IsBytes};
+ghost use Rattle.gs_log.specs.declared.limits.TheConstants.{MAX_PAYLOAD, MAX_RECORDS};
 ghost use Rattle.gs_log.specs.Fits.{Fits};
 ghost use Rattle.gs_log.specs.Names.{log_name, mark_name};
 ghost use Rattle.gs_log.specs.Holding.{Holds, IsBeforeOrAfter, IsNoneOrEmpty};
+ghost use Rattle.gs_log.specs.declared.err.LogErr.TheVariants.{NoMemory};
 ghost use Rattle.gs_log.specs.Told.{Refuses, IsOutside, HasCause};
 
 use crate::LogErr;
-use crate::bytes::closed_record;
+use crate::bytes::{closed_record, part};
 use crate::names::{log_file, mark_file};
+use crate::place::Place;
 use crate::reading::parse;
 use crate::steps::{add_record, make_files};
 use gs_disk::{Disk, Whole, read_whole};
 use std::alloc::Global;
 use std::marker::Model;
 
-/// The bytes that a payload may have.
-pub const MAX_PAYLOAD: usize = 33_554_432;
-
-/// The records that a log may have.
-pub const MAX_RECORDS: usize = 32_767;
-
 /// A log as it stands on a disk, with its payloads in memory. After a call has answered an error it isn't
 /// used again, but loaded anew.
 #[derive(Drop)]
 pub struct Log {
     pub(crate) alloc: Global,
-    pub(crate) payloads: Vec<Vec<u8>>,
+    // the bytes that were read, and then those of each record that was added
+    pub(crate) pieces: Vec<Vec<u8>>,
+    // where the payloads are in them
+    pub(crate) places: Vec<Place>,
     // the place of the closed gate
     pub(crate) end: u64,
 }
 
 impl Model for Log {
-    ghost use Rattle.std.specs.Prelude.{ℕ, List, map};
-    ghost use Rattle.gs_log.specs.Fits.{Fits};
+    ghost use Rattle.std.specs.Prelude.{ℕ, List};
+    ghost use Rattle.gs_log.specs.Kept.{pieces_of, payloads_in, IsKept};
 
     ghost Value = { List (List ℕ) };
 
-    ghost view = { λ l. map (λ v. v.items) l.payloads.items };
+    ghost view = { λ l. payloads_in (pieces_of l.pieces.items) l.places.items };
 
-    ghost invariant = { λ l. Fits (map (λ v. v.items) l.payloads.items) l.end };
+    ghost invariant = { λ l. IsKept (pieces_of l.pieces.items) l.places.items l.end };
 }
 
 impl Log {
@@ -61,7 +62,8 @@ impl Log {
         make_files(disk)?;
         Ok(Log {
             alloc,
-            payloads: Vec::new(alloc),
+            pieces: Vec::new(alloc),
+            places: Vec::new(alloc),
             end: 0,
         })
     }
@@ -88,7 +90,7 @@ impl Log {
             Whole::Absent => return Err(LogErr::BadLog { at: 0 }),
             Whole::TooLong { .. } => return Err(LogErr::BadLog { at: 0 }),
         }
-        let log = parse(alloc, &bytes)?;
+        let log = parse(alloc, bytes)?;
         Ok(log)
     }
 
@@ -97,8 +99,8 @@ impl Log {
     /// crash leaves the list as it was, or with the payload; once this has answered `Ok`, with the payload. It
     /// answers only `DiskFault` and `NoMemory`.
     pub fn append<D: Disk>(&mut self, disk: &mut D, payload: &[u8]) -> Result<(), LogErr>
-        requires small { length payload.now ≤ 33554432 }
-        requires room { length self.old < 32767 }
+        requires small { length payload.now ≤ MAX_PAYLOAD }
+        requires room { length self.old < MAX_RECORDS }
         requires stands { D.tells → EachNow (Holds self.old) (D.state disk.old) }
         ensures list { OnOk result (self.new ≡ self.old ++ payload.now ∷ []) }
         ensures same { OnErr result (self.new ≡ self.old) }
@@ -110,13 +112,30 @@ impl Log {
         ensures cause { HasCause (D.state disk.old) (D.state disk.new) result }
         ensures refused { IfErr result IsOutside }
     {
-        let kept = Vec::from_slice(self.alloc, payload)?;
         let closed = closed_record(self.alloc, payload)?;
-        self.payloads.reserve(1)?;
+        self.pieces.reserve(1)?;
+        self.places.reserve(1)?;
         add_record(disk, self, payload, &closed)?;
-        if let Err(_) = self.payloads.push(kept) {
-            return Err(LogErr::NoMemory);
-        }
+        self.keep(closed, payload)?;
+        Ok(())
+    }
+
+    /// Keeps a record of this payload that was added.
+    fn keep(&mut self, closed: Vec<u8>, payload: &[u8]) -> Result<(), LogErr>
+        requires small { length payload.now ≤ MAX_PAYLOAD }
+        requires room { length self.old < MAX_RECORDS }
+        requires spelled { closed.items ≡ (to_le_bytes w32 (length payload.now) ++ payload.now) ++ 0 ∷ [] }
+        ensures list { OnOk result (self.new ≡ self.old ++ payload.now ∷ []) }
+        ensures same { OnErr result (self.new ≡ self.old) }
+        ensures refused { IfErr result (λ e. e ≡ NoMemory) }
+    {
+        let place = Place {
+            piece: self.pieces.len(),
+            start: 4,
+            len: payload.len(),
+        };
+        self.pieces.push(closed)?;
+        self.places.push(place)?;
         self.end += 5 + payload.len() as u64;
         Ok(())
     }
@@ -131,16 +150,18 @@ impl Log {
     /// The number of records, at most `MAX_RECORDS`.
     pub fn count(&self) -> u32
         ensures value { result ≡ length self.now }
-        ensures few { result ≤ 32767 }
+        ensures few { result ≤ MAX_RECORDS }
     {
-        self.payloads.len() as u32
+        self.places.len() as u32
     }
 
     /// The payload of a record, from 0 on.
     pub fn payload(&self, i: u32) -> &[u8]
         requires { i < length self.now }
-        ensures { result.now ≡ slice_index_or self.now i [] }
+        ensures value { result.now ≡ slice_index_or self.now i [] }
+        ensures bytes { IsBytes result.now }
     {
-        &self.payloads[i as usize]
+        let place = self.places[i as usize];
+        part(&self.pieces[place.piece], place.start, place.len)
     }
 }

@@ -3,6 +3,7 @@ ghost use Rattle.std.specs.Prelude.{◌≡◌, ◌<◌, ◌≤◌, ◌++◌, [],
 ghost use Rattle.std.specs.Int.{w32, to_le_bytes};
 ghost use Rattle.gs_disk.specs.Folder.{Folder, KeepsOthers, HasCause};
 ghost use Rattle.gs_disk.specs.Moments.{Passes, LeavesOnly, EachNow, Always};
+ghost use Rattle.gs_log.specs.declared.limits.TheConstants.{MAX_PAYLOAD, MAX_RECORDS};
 ghost use Rattle.gs_log.specs.Names.{log_name, mark_name};
 ghost use Rattle.gs_log.specs.Holding.{Holds, IsBeforeOrAfter, IsNoneOrEmpty};
 
@@ -37,8 +38,8 @@ pub fn add_record<D: Disk>(
     payload: &[u8],
     closed: &[u8],
 ) -> Result<(), DiskErr>
-    requires small { length payload.now ≤ 33554432 }
-    requires room { length list.now < 32767 }
+    requires small { length payload.now ≤ MAX_PAYLOAD }
+    requires room { length list.now < MAX_RECORDS }
     requires spelled { closed.now ≡ (to_le_bytes w32 (length payload.now) ++ payload.now) ++ 0 ∷ [] }
     requires stands { D.tells → EachNow (Holds list.now) (D.state disk.old) }
     ensures any_moment { D.tells → Always (IsBeforeOrAfter list.now payload.now (D.state disk.old).folder) (D.state disk.old) (D.state disk.new) }

@@ -6,6 +6,7 @@ pub mod Looks
 pub mod Chain
 pub mod Levels
 pub mod Operands
+pub mod Places
 pub mod Choices
 pub mod Reviews
 pub mod Assigning

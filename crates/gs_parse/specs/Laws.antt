@@ -1,11 +1,16 @@
 -- Laws of the grammar and of the texts.
 use Rattle.std.specs.Prelude.{◌≡◌, ℕ, List, ◌∷◌, drop}
-use Rattle.gs_tree.specs.Sign.{Mark, bad}
+use Rattle.gs_tree.specs.Sign.{Sign, Mark, bad}
 use Rattle.gs_tree.specs.Program.{Program}
 use Rattle.gs_tree.specs.declared.token.LexKind.{LexKind}
 use Rattle.gs_parse.specs.declared.fault.ParseKind.{ParseKind}
 use Rattle.gs_parse.specs.Faulty.{IsText, IsTextFault, IsKindAt, lexical_kind}
 use Rattle.gs_parse.specs.Reading.{Limits, SaysProgram}
+use Rattle.gs_parse.specs.Symbols.{place, bare}
+
+-- Signs of one place differ only in what they hold.
+abbrev pub SamePlace : Type 0
+SamePlace = (a b : Sign) → place a ≡ place b → bare a ≡ bare b
 
 -- A list of signs says at most one thing.
 abbrev pub OneMeaning : Type 0

@@ -1,5 +1,5 @@
 -- What the reader's functions promise: where they stand in a text, and what they read from there.
-use Rattle.std.specs.Prelude.{◌≡◌, ℕ, List, [], ◌∷◌, Option, Some, None, Result, Ok, Err, Bool, true, false, drop, map, ⊤}
+use Rattle.std.specs.Prelude.{◌≡◌, ℕ, ◌+◌, ◌≤◌, IfOk, List, [], ◌∷◌, Option, Some, None, Result, Ok, Err, Bool, true, false, drop, map, ⊤}
 use Rattle.gs_tree.specs.Cut.{marks_in}
 use Rattle.gs_tree.specs.Program.{Name, Term, Passed, two, var}
 use Rattle.gs_tree.specs.Shown.{mark_shown}
@@ -20,9 +20,9 @@ use Rattle.gs_parse.specs.declared.terms.Printing.{Printing}
 use Rattle.gs_parse.specs.declared.build.Operand.{Operand}
 use Rattle.gs_parse.specs.declared.stop.Stop.{Stop}
 use Rattle.gs_parse.specs.declared.stop.Stop.TheVariants.{NoMemory, Unfit, TooDeep}
-use Rattle.gs_parse.specs.Notation.{Kind, Value, Lined, Printed, unfit, too_deep, fit, Rule}
+use Rattle.gs_parse.specs.Notation.{Kind, Value, Lined, Printed, a_term, level, unfit, too_deep, fit, Rule}
 use Rattle.gs_tree.specs.declared.tree.Mode.{Mode}
-use Rattle.gs_parse.specs.Grammar.{is, is_mode, mode_of}
+use Rattle.gs_parse.specs.Grammar.{rule, height, is, is_mode, mode_of}
 use Rattle.gs_parse.specs.Reading.{limited, Says, Stops, next_fit}
 
 -- the signs from a token on
@@ -76,6 +76,13 @@ lined old e = record { line = line_of old; term = term_of e }
 
 abbrev pub seen : List Mark → Operand → Lined
 seen old r = lined old r.e
+
+-- an expression of a level was read, as far as it goes, with its height, for which there is room
+pub record ReadsLevel (tightness depth groups : ℕ) (tokens : Tokens) (old : ℕ) (result : Result Operand Stop) (new : ℕ) : Type 0 where
+  pub reads : Reads a_term (rule (level tightness depth groups)) (seen (left tokens old)) (left tokens old) result (left tokens new)
+  pub room : IfOk result (λ r. depth + r.height ≤ 64)
+  pub height_is : IfOk result (λ r. r.height ≡ height (term_of r.e))
+  pub onward : old ≤ new
 
 -- a sign and its line stand first
 abbrev pub IsFirst : (line : ℕ) → Sign → (here next : List Mark) → Type 0

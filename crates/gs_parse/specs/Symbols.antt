@@ -1,7 +1,8 @@
 -- Which terminal symbol stands at a mark, and what it holds.
-use Rattle.std.specs.Prelude.{ℕ, List, []}
+use Rattle.std.specs.Prelude.{ℕ, pos, List, []}
 use Rattle.gs_tree.specs.declared.tree.Op.{Op}
 use Rattle.gs_tree.specs.declared.tree.Op.TheVariants.{Or, And, Eq, Ne, Lt, Le, Gt, Ge, Add, Sub, Mul, Div, Rem}
+use Rattle.gs_tree.specs.declared.token.LexKind.TheVariants.{BadByte}
 use Rattle.gs_tree.specs.Program.{Name}
 use Rattle.gs_tree.specs.Sign.{Sign, Mark, main_, int_, char_, file_, void_, if_, else_, while_, for_, return_, gs_on, gs_off, gs_barrier, gs_fopen, gs_fclose, printf_, fprintf_, sprintf_, fgetline_, atoi_, strcmp_, mode_r, mode_w, mode_a, ident, number, string, plus_plus, minus_minus, plus_equal, minus_equal, less_equal, greater_equal, equal_equal, not_equal, and_and, or_or, open_paren, close_paren, open_brace, close_brace, comma, semicolon, equal, plus, minus, star, slash, percent, less, greater, bang, ampersand, bad}
 
@@ -61,6 +62,14 @@ place greater = 51
 place bang = 52
 place ampersand = 53
 place (bad kind) = 54
+
+-- a sign without what it holds
+abbrev pub bare : Sign → Sign
+bare (ident s) = ident []
+bare (number v) = number (pos 0)
+bare (string s) = string []
+bare (bad kind) = bad BadByte
+bare s = s
 
 -- what a name or a string holds
 abbrev pub text_of : Sign → List ℕ

@@ -11,8 +11,8 @@ use crate::marks::{Word, accept, expect, look};
 use crate::name::take_name;
 use crate::stop::Stop;
 use crate::terms::read_expr;
-use gs_tree::{Argument, Expr, Ident, Tokens};
 use gs_tree::sign::Symbol;
+use gs_tree::{Argument, Expr, Ident, Tokens};
 use std::alloc::Global;
 
 pub(crate) fn line_at(tokens: &Tokens, at: usize) -> u32

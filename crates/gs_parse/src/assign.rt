@@ -12,8 +12,8 @@ use crate::marks::{Word, accept, expect};
 use crate::name::copied;
 use crate::stop::Stop;
 use crate::terms::read_expr;
-use gs_tree::{Assign, Expr, Ident, Op, Tokens};
 use gs_tree::sign::Symbol;
+use gs_tree::{Assign, Expr, Ident, Op, Tokens};
 use std::alloc::Global;
 
 // `to op by` as the value of `to`.

@@ -1,11 +1,8 @@
 //! Reading expressions.
 
-ghost use Rattle.std.specs.Prelude.{◌≡◌, ◌+◌, ◌-◌, ◌^◌, ◌<◌, ◌≤◌, IfOk};
+ghost use Rattle.std.specs.Prelude.{◌+◌, ◌-◌, ◌^◌, ◌<◌, ◌≤◌};
 ghost use Rattle.gs_tree.specs.Signs.{sign_of_symbol, sign_of_keyword};
-ghost use Rattle.gs_tree.specs.View.{term_of};
-ghost use Rattle.gs_parse.specs.Grammar.{rule, height};
-ghost use Rattle.gs_parse.specs.Notation.{a_term, level};
-ghost use Rattle.gs_parse.specs.Reads.{left, Reads, seen, IsFirst};
+ghost use Rattle.gs_parse.specs.Reads.{left, ReadsLevel, IsFirst};
 
 use crate::build::{
     Operand, atoi_of, inverted, joined_by, name_leaf, negated, number_leaf, strcmp_of, text_leaf,
@@ -30,10 +27,7 @@ fn negation(
     requires depth { depth < 64 }
     requires within { at.old < 2 ^ 64 - 1 }
     requires stands { IsFirst line (sign_of_symbol Symbol.Minus) (left tokens.now at.old) (left tokens.now (at.old + 1)) }
-    ensures reads { Reads a_term (rule (level 0 depth groups)) (seen (left tokens.now at.old)) (left tokens.now at.old) result (left tokens.now at.new) }
-    ensures room { IfOk result (λ r. depth + r.height ≤ 64) }
-    ensures height { IfOk result (λ r. r.height ≡ height (term_of r.e)) }
-    ensures onward { at.old ≤ at.new }
+    ensures { ReadsLevel 0 depth groups tokens.now at.old result at.new }
 {
     if depth + 1 >= LIMIT {
         return Err(Stop::TooDeep);
@@ -62,10 +56,7 @@ fn inversion(
     requires depth { depth < 64 }
     requires within { at.old < 2 ^ 64 - 1 }
     requires stands { IsFirst line (sign_of_symbol Symbol.Bang) (left tokens.now at.old) (left tokens.now (at.old + 1)) }
-    ensures reads { Reads a_term (rule (level 0 depth groups)) (seen (left tokens.now at.old)) (left tokens.now at.old) result (left tokens.now at.new) }
-    ensures room { IfOk result (λ r. depth + r.height ≤ 64) }
-    ensures height { IfOk result (λ r. r.height ≡ height (term_of r.e)) }
-    ensures onward { at.old ≤ at.new }
+    ensures { ReadsLevel 0 depth groups tokens.now at.old result at.new }
 {
     if depth + 1 >= LIMIT {
         return Err(Stop::TooDeep);
@@ -94,10 +85,7 @@ fn grouping(
     requires depth { depth < 64 }
     requires within { at.old < 2 ^ 64 - 1 }
     requires stands { IsFirst line (sign_of_symbol Symbol.OpenParen) (left tokens.now at.old) (left tokens.now (at.old + 1)) }
-    ensures reads { Reads a_term (rule (level 0 depth groups)) (seen (left tokens.now at.old)) (left tokens.now at.old) result (left tokens.now at.new) }
-    ensures room { IfOk result (λ r. depth + r.height ≤ 64) }
-    ensures height { IfOk result (λ r. r.height ≡ height (term_of r.e)) }
-    ensures onward { at.old ≤ at.new }
+    ensures { ReadsLevel 0 depth groups tokens.now at.old result at.new }
 {
     if groups >= LIMIT {
         return Err(Stop::TooDeep);
@@ -127,10 +115,7 @@ fn prefixed(
     requires depth { depth < 64 }
     requires within { at.old < 2 ^ 64 - 1 }
     requires stands { IsFirst line (sign_of_symbol symbol) (left tokens.now at.old) (left tokens.now (at.old + 1)) }
-    ensures reads { Reads a_term (rule (level 0 depth groups)) (seen (left tokens.now at.old)) (left tokens.now at.old) result (left tokens.now at.new) }
-    ensures room { IfOk result (λ r. depth + r.height ≤ 64) }
-    ensures height { IfOk result (λ r. r.height ≡ height (term_of r.e)) }
-    ensures onward { at.old ≤ at.new }
+    ensures { ReadsLevel 0 depth groups tokens.now at.old result at.new }
 {
     match symbol {
         Symbol::Minus => negation(alloc, tokens, at, depth, groups, line),
@@ -153,10 +138,7 @@ fn atoi_call(
     requires depth { depth < 64 }
     requires within { at.old < 2 ^ 64 - 1 }
     requires stands { IsFirst line (sign_of_keyword Keyword.Atoi) (left tokens.now at.old) (left tokens.now (at.old + 1)) }
-    ensures reads { Reads a_term (rule (level 0 depth groups)) (seen (left tokens.now at.old)) (left tokens.now at.old) result (left tokens.now at.new) }
-    ensures room { IfOk result (λ r. depth + r.height ≤ 64) }
-    ensures height { IfOk result (λ r. r.height ≡ height (term_of r.e)) }
-    ensures onward { at.old ≤ at.new }
+    ensures { ReadsLevel 0 depth groups tokens.now at.old result at.new }
 {
     if depth + 1 >= LIMIT {
         return Err(Stop::TooDeep);
@@ -193,10 +175,7 @@ fn strcmp_call(
     requires depth { depth < 64 }
     requires within { at.old < 2 ^ 64 - 1 }
     requires stands { IsFirst line (sign_of_keyword Keyword.Strcmp) (left tokens.now at.old) (left tokens.now (at.old + 1)) }
-    ensures reads { Reads a_term (rule (level 0 depth groups)) (seen (left tokens.now at.old)) (left tokens.now at.old) result (left tokens.now at.new) }
-    ensures room { IfOk result (λ r. depth + r.height ≤ 64) }
-    ensures height { IfOk result (λ r. r.height ≡ height (term_of r.e)) }
-    ensures onward { at.old ≤ at.new }
+    ensures { ReadsLevel 0 depth groups tokens.now at.old result at.new }
 {
     if depth + 1 >= LIMIT {
         return Err(Stop::TooDeep);
@@ -242,10 +221,7 @@ fn called(
     requires depth { depth < 64 }
     requires within { at.old < 2 ^ 64 - 1 }
     requires stands { IsFirst line (sign_of_keyword keyword) (left tokens.now at.old) (left tokens.now (at.old + 1)) }
-    ensures reads { Reads a_term (rule (level 0 depth groups)) (seen (left tokens.now at.old)) (left tokens.now at.old) result (left tokens.now at.new) }
-    ensures room { IfOk result (λ r. depth + r.height ≤ 64) }
-    ensures height { IfOk result (λ r. r.height ≡ height (term_of r.e)) }
-    ensures onward { at.old ≤ at.new }
+    ensures { ReadsLevel 0 depth groups tokens.now at.old result at.new }
 {
     match keyword {
         Keyword::Atoi => atoi_call(alloc, tokens, at, depth, groups, line),
@@ -263,10 +239,7 @@ fn operand(
     groups: u32,
 ) -> Result<Operand, Stop>
     requires { depth < 64 }
-    ensures reads { Reads a_term (rule (level 0 depth groups)) (seen (left tokens.now at.old)) (left tokens.now at.old) result (left tokens.now at.new) }
-    ensures room { IfOk result (λ r. depth + r.height ≤ 64) }
-    ensures height { IfOk result (λ r. r.height ≡ height (term_of r.e)) }
-    ensures onward { at.old ≤ at.new }
+    ensures { ReadsLevel 0 depth groups tokens.now at.old result at.new }
 {
     let mark = match look(tokens, *at) {
         Some(mark) => mark,
@@ -310,10 +283,7 @@ pub(crate) fn binary(
 ) -> Result<Operand, Stop>
     requires depth { depth < 64 }
     requires tightness { tightness ≤ 6 }
-    ensures reads { Reads a_term (rule (level tightness depth groups)) (seen (left tokens.now at.old)) (left tokens.now at.old) result (left tokens.now at.new) }
-    ensures room { IfOk result (λ r. depth + r.height ≤ 64) }
-    ensures height { IfOk result (λ r. r.height ≡ height (term_of r.e)) }
-    ensures onward { at.old ≤ at.new }
+    ensures { ReadsLevel tightness depth groups tokens.now at.old result at.new }
 {
     if tightness == 0 {
         return operand(alloc, tokens, at, depth, groups);

@@ -7,8 +7,8 @@ ghost use Rattle.gs_parse.specs.Faulty.{lexical_kind, kind_of_sign, kind_from, l
 ghost use Rattle.gs_parse.specs.Reads.{left};
 
 use crate::marks::look;
-use gs_tree::{LexKind, Tokens};
 use gs_tree::sign::Sign;
+use gs_tree::{LexKind, Tokens};
 
 /// How a text goes wrong.
 #[derive(Clone, Copy, PartialEq, Eq, Debug)]

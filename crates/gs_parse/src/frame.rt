@@ -14,8 +14,8 @@ use crate::stmt::{Block, read_stmts};
 use crate::stop::Stop;
 use crate::terms::read_expr;
 use crate::vars::{Declarations, read_decls};
-use gs_tree::{Assign, Tokens, Tree, Var};
 use gs_tree::sign::{Keyword, Sign, Symbol};
+use gs_tree::{Assign, Tokens, Tree, Var};
 use std::alloc::Global;
 
 fn is_zero_sign(sign: &Sign) -> bool

@@ -12,8 +12,8 @@ use crate::marks::{Word, accept, expect};
 use crate::name::take_name;
 use crate::stop::Stop;
 use crate::terms::read_expr;
-use gs_tree::{Assign, Expr, Tokens};
 use gs_tree::sign::Symbol;
+use gs_tree::{Assign, Expr, Tokens};
 use std::alloc::Global;
 
 /// The assignment before the first round, and the `;` after it.

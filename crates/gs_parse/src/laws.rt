@@ -1,6 +1,11 @@
 //! Laws of the grammar and of the texts.
 
-ghost use Rattle.gs_parse.specs.Laws.{LexicalFault, OneFault, OneMeaning, OneProgram, SaysOrFails};
+ghost use Rattle.gs_parse.specs.Laws.{LexicalFault, OneFault, OneMeaning, OneProgram, SamePlace, SaysOrFails};
+
+/// Signs of one place differ only in what they hold.
+pub fn same_place()
+    ensures { SamePlace }
+{}
 
 /// A list of signs says at most one thing.
 pub fn one_meaning()

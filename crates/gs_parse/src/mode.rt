@@ -5,8 +5,8 @@ ghost use Rattle.gs_parse.specs.Reads.{left, TakesMode};
 
 use crate::marks::{Word, accept};
 use crate::stop::Stop;
-use gs_tree::{Mode, Tokens};
 use gs_tree::sign::Keyword;
+use gs_tree::{Mode, Tokens};
 
 /// Takes a mode.
 pub(crate) fn take_mode(tokens: &Tokens, at: &mut usize) -> Result<Mode, Stop>

@@ -8,8 +8,8 @@ ghost use Rattle.gs_parse.specs.Symbols.{place};
 
 use crate::marks::look;
 use crate::stop::Stop;
-use gs_tree::{Format, Ident, Tokens};
 use gs_tree::sign::Sign;
+use gs_tree::{Format, Ident, Tokens};
 use std::alloc::Global;
 
 fn name_in<'a>(sign: Sign<'a>) -> Option<&'a [u8]>

@@ -14,8 +14,8 @@ use crate::mode::take_mode;
 use crate::simple::read_line_call;
 use crate::stop::Stop;
 use crate::terms::read_expr;
-use gs_tree::{Assign, Ident, Stmt, Tokens};
 use gs_tree::sign::{Keyword, Symbol};
+use gs_tree::{Assign, Ident, Stmt, Tokens};
 use std::alloc::Global;
 
 /// A call of `GS_FOpen`, after its name.

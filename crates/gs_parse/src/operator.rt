@@ -8,8 +8,8 @@ ghost use Rattle.gs_parse.specs.Reads.{left};
 ghost use Rattle.gs_parse.specs.Symbols.{binding, operator};
 
 use crate::marks::look;
-use gs_tree::{Op, Tokens};
 use gs_tree::sign::{Sign, Symbol};
+use gs_tree::{Op, Tokens};
 
 fn binding_of(symbol: Symbol) -> u32
     ensures { result ≡ binding (sign_of_symbol symbol) }

@@ -13,8 +13,8 @@ use crate::marks::{Word, expect};
 use crate::name::take_name;
 use crate::stop::Stop;
 use crate::terms::{Printing, read_printing};
-use gs_tree::{Ident, Stmt, Tokens};
 use gs_tree::sign::Symbol;
+use gs_tree::{Ident, Stmt, Tokens};
 use std::alloc::Global;
 
 /// A call of `fgetline`, after its name.

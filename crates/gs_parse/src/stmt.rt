@@ -20,8 +20,8 @@ use crate::simple::{read_barrier, read_close, read_print, read_print_file, read_
 use crate::start::start_at;
 use crate::stop::{LIMIT, Stop};
 use crate::terms::read_condition;
-use gs_tree::{Ident, Stmt, Tokens};
 use gs_tree::sign::{Keyword, Symbol};
+use gs_tree::{Ident, Stmt, Tokens};
 use std::alloc::Global;
 
 /// Statements, and the line of the sign that closes them.

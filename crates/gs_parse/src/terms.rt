@@ -11,8 +11,8 @@ use crate::expr::binary;
 use crate::marks::{Word, accept, expect};
 use crate::name::take_format;
 use crate::stop::Stop;
-use gs_tree::{Expr, Format, Tokens};
 use gs_tree::sign::Symbol;
+use gs_tree::{Expr, Format, Tokens};
 use std::alloc::Global;
 
 /// An expression around which so many operators stand.

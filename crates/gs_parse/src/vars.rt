@@ -11,8 +11,8 @@ use crate::marks::{Word, accept, expect};
 use crate::name::{copied, take_name};
 use crate::stop::Stop;
 use crate::terms::read_expr;
-use gs_tree::{Assign, Expr, Ident, Tokens, Var, VarKind};
 use gs_tree::sign::{Keyword, Symbol};
+use gs_tree::{Assign, Expr, Ident, Tokens, Var, VarKind};
 use std::alloc::Global;
 
 /// The variables declared so far, and the assignments in their declarations.

@@ -4,15 +4,18 @@ use Rattle.std.proofs.Math.Seq.{take-suc}
 use Rattle.std.specs.Option.{option_to_list}
 use Rattle.gs_types.specs.Job.{Fit}
 use Rattle.gs_types.specs.declared.value.Value.{Value}
+use Rattle.gs_types.specs.declared.value.Value.TheVariants as value
 use Rattle.gs_types.specs.declared.job.Arg.{Arg}
 use Rattle.gs_types.specs.declared.job.Arg.TheVariants as arg
 use Rattle.gs_proc.specs.declared.call.Place.{Place}
-use Rattle.gs_proc.specs.declared.call.Place.TheVariants.{Given, File, Int, Text}
+use Rattle.gs_proc.specs.declared.call.Place.TheVariants.{Word, Input, File, Int, Text}
 use Rattle.gs_proc.specs.Places.{place_of, GivesAt, GiveAll}
 
 give_one : (p : Place) (o : Option Value) → GivesAt p o → GiveAll (p ∷ []) (option_to_list o)
-give_one Given None gives = tt
-give_one Given (Some v) gives = absurd gives
+give_one Word None gives = tt
+give_one Word (Some v) gives = absurd gives
+give_one Input None gives = tt
+give_one Input (Some v) gives = absurd gives
 give_one File None gives = absurd gives
 give_one File (Some v) gives = (gives, tt)
 give_one Int None gives = absurd gives
@@ -23,7 +26,8 @@ give_one Text (Some v) gives = (gives, tt)
 give_push : (ps : List Place) (outs : List Value) (p : Place) (o : Option Value) → GiveAll ps outs → GivesAt p o → GiveAll (ps ++ p ∷ []) (outs ++ option_to_list o)
 give_push [] [] p o all gives = give_one p o gives
 give_push [] (v ∷ outs) p o all gives = absurd all
-give_push (Given ∷ ps) outs p o all gives = give_push ps outs p o all gives
+give_push (Word ∷ ps) outs p o all gives = give_push ps outs p o all gives
+give_push (Input ∷ ps) outs p o all gives = give_push ps outs p o all gives
 give_push (File ∷ ps) [] p o all gives = absurd all
 give_push (File ∷ ps) (v ∷ outs) p o all gives = (all.0, give_push ps outs p o all.1 gives)
 give_push (Int ∷ ps) [] p o all gives = absurd all
@@ -37,7 +41,9 @@ give_next ps i d outs o lt all gives = rw add-one (subst (λ (xs : List Place). 
 pub gives_fit : (args : List Arg) (outs : List Value) → GiveAll (map place_of args) outs → Fit args outs
 gives_fit [] [] all = tt
 gives_fit [] (v ∷ outs) all = absurd all
-gives_fit (arg.Given v ∷ args) outs all = gives_fit args outs all
+gives_fit (arg.Given (value.Int v) ∷ args) outs all = gives_fit args outs all
+gives_fit (arg.Given (value.Str s) ∷ args) outs all = gives_fit args outs all
+gives_fit (arg.Given (value.File bytes) ∷ args) outs all = gives_fit args outs all
 gives_fit (arg.Both bytes ∷ args) [] all = absurd all
 gives_fit (arg.Both bytes ∷ args) (v ∷ outs) all = (all.0, gives_fit args outs all.1)
 gives_fit (arg.OutFile ∷ args) [] all = absurd all

@@ -3,4 +3,5 @@ pub mod Gives
 pub mod Lines
 pub mod Numbers
 pub mod TaskLists
+pub mod Waits
 pub mod WordLists

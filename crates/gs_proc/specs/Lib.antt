@@ -1,3 +1,4 @@
+pub mod Ends
 pub mod Line
 pub mod Number
 pub mod Outs

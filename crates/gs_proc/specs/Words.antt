@@ -1,5 +1,7 @@
 -- The words that a child program is called with.
-use Rattle.std.specs.Prelude.{ℕ, ◌+◌, List, [], ◌∷◌, ◌++◌, codes}
+use Rattle.std.specs.Prelude.{◌≡◌, ℕ, ◌+◌, false, List, [], ◌∷◌, ◌++◌, None, codes}
+use Rattle.std.specs.Process.{command_dir, clears_env, command_var}
+use Rattle.std.specs.declared.process.Command.{Command}
 use Rattle.std.specs.Fmt.{decimal, signed_decimal}
 use Rattle.gs_types.specs.declared.value.Value.TheVariants.{Int, Str, File}
 use Rattle.gs_types.specs.declared.job.Arg.{Arg}
@@ -23,3 +25,9 @@ word_at n place OutStr = stage_path n place
 abbrev pub words_from : ℕ → ℕ → List Arg → List (List ℕ)
 words_from n place [] = []
 words_from n place (arg ∷ args) = word_at n place arg ∷ words_from n (place + 1) args
+
+-- a command says nothing of folder and environment, so these are the caller's
+pub record IsPlain {A : Type 0} (c : Command A) : Type 0 where
+  pub folder : command_dir c ≡ None
+  pub inherits : clears_env c ≡ false
+  pub variables : (name : List ℕ) → command_var c name ≡ None

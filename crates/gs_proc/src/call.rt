@@ -2,15 +2,17 @@
 ghost use Rattle.std.specs.Prelude.{◌≡◌, map, IfOk};
 ghost use Rattle.gs_proc.specs.Places.{place_of};
 
-use gs_types::{Arg, Job, NoMemory};
+use gs_types::{Arg, Job, NoMemory, Value};
 use std::alloc::Global;
 use std::marker::Model;
 use std::snapshot::Snapshot;
 
-/// What a place of a task gives: nothing, a file, a number or a string.
+/// What a place of a task has: a given value that is a word, a given file, or a file from which a file,
+/// a number or a string is taken.
 #[derive(Clone, Copy, Debug, PartialEq, Eq)]
 pub(crate) enum Place {
-    Given,
+    Word,
+    Input,
     File,
     Int,
     Text,
@@ -40,7 +42,12 @@ fn place_of(arg: &Arg) -> Place
     ensures { result ≡ place_of arg.now }
 {
     match arg {
-        Arg::Given { .. } => Place::Given,
+        Arg::Given {
+            v: Value::Int { .. } | Value::Str { .. },
+        } => Place::Word,
+        Arg::Given {
+            v: Value::File { .. },
+        } => Place::Input,
         Arg::Both { .. } | Arg::OutFile => Place::File,
         Arg::OutInt => Place::Int,
         Arg::OutStr => Place::Text,

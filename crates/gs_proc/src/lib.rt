@@ -6,6 +6,7 @@ mod number;
 mod outs;
 mod proc_link;
 mod stage;
+mod task;
 mod tasks;
 #[cfg(test)]
 mod tests;

@@ -12,16 +12,14 @@ use crate::call::Place;
 use crate::number::{number_of, without_line_feed};
 use crate::stage::{path_of, take};
 use crate::trouble::Trouble;
-use gs_types::{Blob, Text, TextErr, Value};
+use gs_types::{Blob, FILE_LIMIT, STRING_LIMIT, Text, TextErr, Value};
 use std::alloc::Global;
 use std::rt::Files;
 
-// Bytes of the files in which tasks give files, numbers and strings.
-const FILE_LIMIT: usize = 16_777_216;
-
+// Bytes of the files in which tasks give numbers and strings, each with a line feed.
 const NUMBER_LIMIT: usize = 21;
 
-const TEXT_LIMIT: usize = 1025;
+const LINE_LIMIT: usize = STRING_LIMIT + 1;
 
 fn take_file<R: Files>(rt: &R, alloc: Global, path: &str) -> Result<Value, Trouble>
     ensures { IfOk result IsFile }
@@ -63,7 +61,7 @@ fn take_number<R: Files>(rt: &R, alloc: Global, path: &str) -> Result<Value, Tro
 fn take_text<R: Files>(rt: &R, alloc: Global, path: &str) -> Result<Value, Trouble>
     ensures { IfOk result IsStr }
 {
-    let bytes = take(rt, alloc, path, TEXT_LIMIT)?;
+    let bytes = take(rt, alloc, path, LINE_LIMIT)?;
     text_in(alloc, &bytes)
 }
 
@@ -79,7 +77,7 @@ fn out_at<R: Files>(
 {
     let path = path_of(alloc, n, number)?;
     Ok(match place {
-        Place::Given => None,
+        Place::Word | Place::Input => None,
         Place::File => Some(take_file(rt, alloc, path.as_str())?),
         Place::Int => Some(take_number(rt, alloc, path.as_str())?),
         Place::Text => Some(take_text(rt, alloc, path.as_str())?),

@@ -1,24 +1,25 @@
 // A link whose tasks are child programs of this machine.
-ghost use Rattle.std.specs.Prelude.{◌≡◌, ◌+◌, ◌-◌, ◌^◌, min, true, ◌≤◌, ◌∷◌, ◌++◌, [], Some, None, IsSome, IfOk, IfSome, OnOk, OnErr, IsErrOf};
-ghost use Rattle.gs_types.specs.Counts.{Rises};
+ghost use Rattle.std.specs.Prelude.{◌≡◌, ◌≤◌, ◌∷◌, ◌++◌, [], ℕ, length, Some, None, IsSome, IfOk, IfSome, OnOk, OnErr};
+ghost use Rattle.gs_types.specs.Counts.{up};
+ghost use Rattle.gs_types.specs.History.{History};
 ghost use Rattle.gs_types.specs.Job.{Fit};
 ghost use Rattle.gs_types.specs.declared.job.Job.{Job};
 ghost use Rattle.gs_site.specs.Jobs.{without};
-ghost use Rattle.gs_site.specs.Link.{IsIdle, IsBusy, SameJobs, SetsJob, task_of, Ended};
-ghost use Rattle.gs_site.specs.Memory.{counted};
-ghost use Rattle.gs_proc.specs.ProcLink.{law_of, started_jobs, jobs_of, faults_of, started_count, IsFinished};
+ghost use Rattle.gs_site.specs.Link.{IsIdle, IsBusy, task_of, FitsJob, HasStarted, TellsStart, HasEnded, TellsEnd, EndsByLaw, Abandons};
+ghost use Rattle.gs_proc.specs.Ends.{IsEnd};
+ghost use Rattle.gs_proc.specs.ProcLink.{law_of, tells_of, started_jobs, jobs_of, faults_of, started_count, waited_count, EndedLast};
 
 use crate::call::Call;
 use crate::outs::outs_of;
 use crate::stage::{clear, make_folder};
-use crate::tasks::{End, Task, call_of, remove};
+use crate::task::{End, Ending, Task};
+use crate::tasks::Tasks;
 use crate::trouble::Trouble;
-use crate::wait::wait;
 use crate::words::command_of;
 use gs_site::{Event, Link, StartErr};
 use gs_types::{Job, NoLaw, NoMemory, Sequence, Value};
 use std::alloc::Global;
-use std::process::Processes;
+use std::process::{Child, Processes};
 use std::rt::Files;
 use std::time::Clock;
 
@@ -27,7 +28,8 @@ use std::time::Clock;
 /// A child is the worker's program with the operation's name as its first word and then a word for each
 /// place in order: a given number in decimal, a given string itself, and else the name of a file,
 /// `.gs.stage/TASK.PLACE`. At a given file and at one that is taken back that is a copy; at an output no
-/// file stands there. The child reads nothing, and what it prints is dropped.
+/// file stands there. Folder and environment are the master's own. The child reads nothing, and what it
+/// prints is dropped.
 ///
 /// A task is finished where its child ends with status 0 and each output's file holds what is wanted: a
 /// file up to 16,777,216 bytes; a number of `-` or nothing, 1 to 19 digits and one line feed or nothing,
@@ -37,7 +39,9 @@ use std::time::Clock;
 pub struct ProcLink<R: Files + Processes + Clock + Drop> {
     rt: R,
     law: NoLaw,
-    tasks: Vec<Task<R::Started>>,
+    tasks: Tasks<Child<R::Started>>,
+    // The task that ended last, with its child, which tells how.
+    last: Option<Task<Child<R::Started>>>,
     faults: u64,
 }
 
@@ -46,12 +50,12 @@ fn outcome<R: Files>(
     rt: &R,
     alloc: Global,
     call: &Call,
-    well: bool,
+    ending: Ending,
 ) -> Result<Option<Sequence<Value>>, NoMemory>
     ensures fit { IfOk result (λ outs. IfSome outs (Fit call.now.args)) }
-    ensures status { IfOk result (λ outs. IsSome outs → well ≡ true) }
+    ensures well { IfOk result (λ outs. IsSome outs → ending ≡ Ending.Well) }
 {
-    if !well {
+    if ending == Ending::Badly {
         return Ok(None);
     }
     match outs_of(rt, alloc, call.n(), call.places()) {
@@ -59,6 +63,16 @@ fn outcome<R: Files>(
         Err(Trouble::Failed) => Ok(None),
         Err(Trouble::NoMemory) => Err(NoMemory),
     }
+}
+
+// Starts the child of a job, for which its files are staged.
+fn start_child<R: Files + Processes>(
+    rt: &R,
+    alloc: Global,
+    job: &Job,
+) -> Result<Child<R::Started>, Trouble> {
+    let mut command = command_of(rt, alloc, job)?;
+    Ok(command.spawn(rt)?)
 }
 
 impl<R: Files + Processes + Clock + Drop> ProcLink<R> {
@@ -71,7 +85,8 @@ impl<R: Files + Processes + Clock + Drop> ProcLink<R> {
         ProcLink {
             rt,
             law: NoLaw,
-            tasks: Vec::new(alloc),
+            tasks: Tasks::new(alloc),
+            last: None,
             faults: 0,
         }
     }
@@ -85,50 +100,50 @@ impl<R: Files + Processes + Clock + Drop> ProcLink<R> {
 
     // Counts a failure.
     fn fail(&mut self)
-        ensures count { faults_of self.new ≡ min (faults_of self.old + 1) (2 ^ 64 - 1) }
+        ensures count { faults_of self.new ≡ up (faults_of self.old) }
         ensures rise { faults_of self.old ≤ faults_of self.new }
         ensures law { law_of self.new ≡ law_of self.old }
         ensures jobs { started_jobs self.new ≡ started_jobs self.old }
+        ensures last { self.new.last ≡ self.old.last }
     {
         self.faults = self.faults.saturating_add(1);
     }
 
     fn try_start(&mut self, alloc: Global, job: &Job) -> Result<(), Trouble>
+        requires { jobs_of self.old job.now.n ≡ None }
         ensures ok { OnOk result (started_jobs self.new ≡ started_jobs self.old ++ job.now ∷ []) }
         ensures err { OnErr result (started_jobs self.new ≡ started_jobs self.old) }
         ensures count { faults_of self.new ≡ faults_of self.old }
     {
         let call = Call::of(alloc, job)?;
-        self.tasks.reserve(1)?;
+        self.tasks.reserve()?;
         make_folder(&self.rt)?;
-        let mut command = command_of(&self.rt, alloc, job)?;
-        let child = command.spawn(&self.rt)?;
-        match self.tasks.push(Task { call, child }) {
-            Ok(()) => Ok(()),
-            Err(_) => unreachable!(),
-        }
+        let child = match start_child(&self.rt, alloc, job) {
+            Ok(child) => child,
+            Err(trouble) => {
+                clear(&self.rt, alloc, &call);
+                return Err(trouble);
+            }
+        };
+        self.tasks.push(Task { call, child });
+        Ok(())
     }
 
     // Ends a task whose child has ended. After want of memory nothing has changed.
     fn finish(&mut self, alloc: Global, end: End) -> Result<Event, NoMemory>
-        requires { IsSome (jobs_of self.old end.n) }
-        ensures task { IfOk result (λ e. task_of e ≡ end.n) }
-        ensures ended { IfOk result (λ e. (job : Job) × (jobs_of self.old (task_of e) ≡ Some job) × Ended job (faults_of self.old) (faults_of self.new) e) }
+        requires { IsEnd self.old.tasks.list end }
+        ensures ended { IfOk result (λ e. (job : Job) × (jobs_of self.old (task_of e) ≡ Some job) × FitsJob job e) }
         ensures jobs { IfOk result (λ e. started_jobs self.new ≡ without (task_of e) (started_jobs self.old)) }
-        ensures same { OnErr result (started_jobs self.new ≡ started_jobs self.old) }
-        ensures count { IfOk result (λ e. faults_of self.new ≡ counted (faults_of self.old) e) }
-        ensures calm { OnErr result (faults_of self.new ≡ faults_of self.old) }
+        ensures order { OnErr result (started_jobs self.new ≡ started_jobs self.old) }
+        ensures count { faults_of self.new ≡ waited_count (faults_of self.old) result }
         ensures rise { faults_of self.old ≤ faults_of self.new }
-        ensures status { IfOk result (λ e. IsFinished e → end.well ≡ true) }
+        ensures last { IfOk result (EndedLast self.old self.new) }
     {
-        let n = end.n;
-        let call = match call_of(&self.tasks, n) {
-            Some(call) => call,
-            None => unreachable!(),
-        };
-        let outs = outcome(&self.rt, alloc, call, end.well)?;
-        clear(&self.rt, alloc, n, call.places().len());
-        remove(&mut self.tasks, n);
+        let call = &self.tasks.at(end.place).call;
+        let n = call.n();
+        let outs = outcome(&self.rt, alloc, call, end.ending)?;
+        clear(&self.rt, alloc, call);
+        self.last = Some(self.tasks.take(end.place));
         match outs {
             Some(outs) => Ok(Event::Finished { n, outs }),
             None => {
@@ -144,19 +159,17 @@ impl<R: Files + Processes + Clock + Drop> Link for ProcLink<R> {
 
     ghost law = { law_of };
 
-    ghost tells = { λ l h. ⊥ };
+    ghost tells = { tells_of };
 
     ghost jobs = { jobs_of };
 
     ghost faults = { faults_of };
 
     fn start(&mut self, alloc: Global, job: &Job) -> Result<(), StartErr>
-        requires { jobs_of self.old job.now.n ≡ None }
+        requires idle { jobs_of self.old job.now.n ≡ None }
         ensures law { law_of self.new ≡ law_of self.old }
-        ensures flies { OnOk result (SetsJob job.now.n (Some job.now) (jobs_of self.old) (jobs_of self.new)) }
-        ensures stays { OnErr result (SameJobs (jobs_of self.old) (jobs_of self.new)) }
-        ensures rise { faults_of self.old ≤ faults_of self.new }
-        ensures cause { IsErrOf result StartErr.Failed → Rises (faults_of self.old) (faults_of self.new) }
+        ensures started { HasStarted jobs_of faults_of self.old self.new job.now result }
+        ensures told { TellsStart tells_of self.old self.new job.now result }
         ensures jobs { OnOk result (started_jobs self.new ≡ started_jobs self.old ++ job.now ∷ []) }
         ensures order { OnErr result (started_jobs self.new ≡ started_jobs self.old) }
         ensures count { faults_of self.new ≡ started_count (faults_of self.old) result }
@@ -165,7 +178,6 @@ impl<R: Files + Processes + Clock + Drop> Link for ProcLink<R> {
             Ok(()) => Ok(()),
             Err(Trouble::NoMemory) => Err(StartErr::NoMemory),
             Err(Trouble::Failed) => {
-                clear(&self.rt, alloc, job.n, job.args.len());
                 self.fail();
                 Err(StartErr::Failed)
             }
@@ -173,18 +185,17 @@ impl<R: Files + Processes + Clock + Drop> Link for ProcLink<R> {
     }
 
     fn next(&mut self, alloc: Global) -> Result<Event, NoMemory>
-        requires { IsBusy (jobs_of self.old) }
+        requires busy { IsBusy (jobs_of self.old) }
         ensures law { law_of self.new ≡ law_of self.old }
-        ensures ended { IfOk result (λ e. (job : Job) × (jobs_of self.old (task_of e) ≡ Some job) × Ended job (faults_of self.old) (faults_of self.new) e) }
-        ensures flies { IfOk result (λ e. SetsJob (task_of e) None (jobs_of self.old) (jobs_of self.new)) }
-        ensures stays { OnErr result (SameJobs (jobs_of self.old) (jobs_of self.new)) }
-        ensures rise { faults_of self.old ≤ faults_of self.new }
+        ensures ended { HasEnded jobs_of faults_of self.old self.new result }
+        ensures told { TellsEnd tells_of self.old self.new result }
+        ensures by_law { EndsByLaw tells_of jobs_of (λ law op ins. None) law_of self.old result }
         ensures jobs { IfOk result (λ e. started_jobs self.new ≡ without (task_of e) (started_jobs self.old)) }
         ensures order { OnErr result (started_jobs self.new ≡ started_jobs self.old) }
-        ensures count { IfOk result (λ e. faults_of self.new ≡ counted (faults_of self.old) e) }
-        ensures calm { OnErr result (faults_of self.new ≡ faults_of self.old) }
+        ensures count { faults_of self.new ≡ waited_count (faults_of self.old) result }
+        ensures last { IfOk result (EndedLast self.old self.new) }
     {
-        match wait(&self.rt, &mut self.tasks)? {
+        match self.tasks.wait(&self.rt)? {
             Some(end) => self.finish(alloc, end),
             None => Err(NoMemory),
         }
@@ -193,6 +204,7 @@ impl<R: Files + Processes + Clock + Drop> Link for ProcLink<R> {
     fn abandon(&mut self)
         ensures law { law_of self.new ≡ law_of self.old }
         ensures idle { IsIdle (jobs_of self.new) }
+        ensures abandons { Abandons tells_of jobs_of faults_of self.old self.new }
         ensures rise { faults_of self.old ≤ faults_of self.new }
         ensures jobs { started_jobs self.new ≡ [] }
         ensures count { faults_of self.new ≡ faults_of self.old }
@@ -200,7 +212,14 @@ impl<R: Files + Processes + Clock + Drop> Link for ProcLink<R> {
         self.tasks.clear();
     }
 
-    fn events(&self) -> u64 {
+    fn events(&self) -> u64
+        ensures told { (past : History) → tells_of self.now past → result ≡ length past }
+        ensures none { result ≡ 0 }
+    {
         0
     }
+
+    ghost one = { λ l h g a b. absurd a };
+
+    ghost all = { λ l m h a. absurd a };
 }

@@ -1,7 +1,9 @@
 // The staging folder, through which files go to tasks and come back.
 ghost use Rattle.std.specs.Prelude.{◌≡◌, ◌≤◌, IfOk, string_bytes, vec_len};
+ghost use Rattle.gs_proc.specs.Places.{is_staged};
 ghost use Rattle.gs_proc.specs.Words.{stage_path};
 
+use crate::call::{Call, Place};
 use crate::trouble::Trouble;
 use std::alloc::{AllocError, Global};
 use std::fs::File;
@@ -61,11 +63,20 @@ pub(crate) fn take<R: Files>(
     Ok(bytes)
 }
 
-/// Removes what is left of a task's files at its places. One that can't be removed stays.
-pub(crate) fn clear<R: Files>(rt: &R, alloc: Global, n: u32, places: usize) {
-    for place in 0..places {
-        if let Ok(path) = path_of(alloc, n, place + 1) {
-            let _ = remove(rt, path.as_str());
+// Whether a place has a file of the folder.
+fn is_staged(place: Place) -> bool
+    ensures { result ≡ is_staged place }
+{
+    !matches!(place, Place::Word)
+}
+
+/// Removes what is left of a task's files. One that can't be removed stays.
+pub(crate) fn clear<R: Files>(rt: &R, alloc: Global, call: &Call) {
+    for (i, place) in call.places().iter().enumerate() {
+        if is_staged(*place) {
+            if let Ok(path) = path_of(alloc, call.n(), i + 1) {
+                let _ = remove(rt, path.as_str());
+            }
         }
     }
 }

@@ -1,93 +1,100 @@
-// Child programs and the jobs that they do.
-ghost use Rattle.std.specs.Prelude.{◌≡◌, true, ◌<◌, length, vec_len, IsSome, IfOk, IfSome, option_copied};
+// The jobs in flight and their children.
+ghost use Rattle.std.specs.Prelude.{◌≡◌, ◌<◌, [], ◌∷◌, ◌++◌, length, Some, None, IfOk, IfSome, OnOk, slice_get};
 ghost use Rattle.gs_site.specs.Jobs.{job_at, without};
-ghost use Rattle.gs_proc.specs.Tasks.{calls, task_at, tasks_without, EndedWell};
+ghost use Rattle.gs_proc.specs.Tasks.{calls};
+ghost use Rattle.gs_proc.specs.Ends.{IsEnd};
 
-use crate::call::Call;
+use crate::task::{End, Task};
+use crate::wait::wait;
 use gs_types::NoMemory;
-use std::io::ErrorKind;
+use std::alloc::Global;
+use std::marker::Model;
 use std::process::{Child, OpenProcess};
+use std::time::Clock;
 
-/// A job in flight and the child that does it.
+/// The tasks in flight, in the order of their starts, each number once.
 #[derive(Drop)]
-pub(crate) struct Task<P: OpenProcess> {
-    pub(crate) call: Call,
-    pub(crate) child: Child<P>,
+pub(crate) struct Tasks<C> {
+    items: Vec<Task<C>>,
 }
 
-/// A task whose child has ended, and whether with status 0.
-#[derive(Clone, Copy, Debug, PartialEq, Eq)]
-pub(crate) struct End {
-    pub(crate) n: u32,
-    pub(crate) well: bool,
+impl<C> Model for Tasks<C> {
+    ghost use Rattle.std.specs.Prelude.{◌-◌, vec_len, vec_capacity};
+    ghost use Rattle.gs_proc.specs.Tasks.{calls, AreApart, Crew};
+
+    ghost Value = { Crew C };
+
+    ghost view = { λ t. record { list = t.items.items; room = vec_capacity t.items - vec_len t.items } };
+
+    ghost invariant = { λ t. AreApart (calls t.items.items) };
 }
 
-// How a task's child has ended, where it has. A child that can't be asked counts as ended.
-fn end_of<P: OpenProcess>(task: &mut Task<P>) -> Result<Option<End>, NoMemory>
-    ensures call { task.new.call ≡ task.old.call }
-    ensures same { IfOk result (λ end. IfSome end (λ e. e.n ≡ task.old.call.n)) }
-    ensures status { IfOk result (λ end. IfSome end (λ e. e.well ≡ true → EndedWell task.new.child)) }
-{
-    let n = task.call.n();
-    match task.child.try_wait() {
-        Ok(None) => Ok(None),
-        Ok(Some(status)) => Ok(Some(End {
-            n,
-            well: status.success(),
-        })),
-        Err(error) if error.kind() == ErrorKind::OutOfMemory => Err(NoMemory),
-        Err(_) => Ok(Some(End { n, well: false })),
-    }
-}
-
-// How the child at a place has ended, where it has.
-fn end_at<P: OpenProcess>(tasks: &mut Vec<Task<P>>, i: usize) -> Result<Option<End>, NoMemory>
-    requires { i < length tasks.old.items }
-    ensures calls { calls tasks.new.items ≡ calls tasks.old.items }
-    ensures len { vec_len tasks.new ≡ vec_len tasks.old }
-    ensures one { IfOk result (λ end. IfSome end (λ e. IsSome (job_at (calls tasks.old.items) e.n))) }
-{
-    end_of(&mut tasks[i])
-}
-
-/// The first task, in the order of starts, whose child has ended.
-pub(crate) fn first_end<P: OpenProcess>(tasks: &mut Vec<Task<P>>) -> Result<Option<End>, NoMemory>
-    ensures calls { calls tasks.new.items ≡ calls tasks.old.items }
-    ensures one { IfOk result (λ end. IfSome end (λ e. IsSome (job_at (calls tasks.old.items) e.n))) }
-{
-    for i in 0..tasks.len() {
-        if let Some(end) = end_at(tasks, i)? {
-            return Ok(Some(end));
+impl<C> Tasks<C> {
+    pub(crate) fn new(alloc: Global) -> Tasks<C>
+        ensures { result.list ≡ [] }
+    {
+        Tasks {
+            items: Vec::new(alloc),
         }
     }
-    Ok(None)
-}
 
-fn find<P: OpenProcess>(tasks: &[Task<P>], n: u32) -> Option<&Task<P>>
-    ensures { option_copied result ≡ task_at tasks.now n }
-{
-    tasks.iter().find(|task| task.call.n() == n)
-}
+    /// Makes room for one more. On want of memory the tasks stay.
+    pub(crate) fn reserve(&mut self) -> Result<(), NoMemory>
+        ensures list { self.new.list ≡ self.old.list }
+        ensures room { OnOk result (0 < self.new.room) }
+    {
+        self.items.reserve(1)?;
+        Ok(())
+    }
 
-/// The call of a task in flight.
-pub(crate) fn call_of<P: OpenProcess>(tasks: &Vec<Task<P>>, n: u32) -> Option<&Call>
-    ensures { option_copied result ≡ job_at (calls tasks.now.items) n }
-{
-    match find(tasks, n) {
-        Some(task) => Some(&task.call),
-        None => None,
+    /// Puts a task behind the others, for which there is room.
+    pub(crate) fn push(&mut self, task: Task<C>)
+    where
+        C: Drop,
+        requires room { 0 < self.old.room }
+        requires free { job_at (calls self.old.list) task.call.n ≡ None }
+        ensures { self.new.list ≡ self.old.list ++ task ∷ [] }
+    {
+        match self.items.push(task) {
+            Ok(()) => {}
+            Err(_) => unreachable!(),
+        }
+    }
+
+    /// The task at a place, which is the only one of its number.
+    pub(crate) fn at(&self, place: usize) -> &Task<C>
+        requires { place < length self.now.list }
+        ensures here { slice_get self.now.list place ≡ Some result.now }
+        ensures only { job_at (calls self.now.list) result.now.call.n ≡ Some result.now.call }
+    {
+        &self.items[place]
+    }
+
+    /// Takes the task at a place out.
+    pub(crate) fn take(&mut self, place: usize) -> Task<C>
+        requires { place < length self.old.list }
+        ensures here { slice_get self.old.list place ≡ Some result }
+        ensures calls { calls self.new.list ≡ without result.call.n (calls self.old.list) }
+    {
+        self.items.remove(place)
+    }
+
+    /// Lets all tasks go.
+    pub(crate) fn clear(&mut self)
+    where
+        C: Drop,
+        ensures { self.new.list ≡ [] }
+    {
+        self.items.clear();
     }
 }
 
-fn retain_others<P: OpenProcess + Drop>(tasks: &mut Vec<Task<P>>, n: u32)
-    ensures { tasks.new.items ≡ tasks_without n tasks.old.items }
-{
-    tasks.retain(|task| task.call.n() != n);
-}
-
-/// Lets the other tasks go on without this one.
-pub(crate) fn remove<P: OpenProcess + Drop>(tasks: &mut Vec<Task<P>>, n: u32)
-    ensures { calls tasks.new.items ≡ without n (calls tasks.old.items) }
-{
-    retain_others(tasks, n);
+impl<P: OpenProcess> Tasks<Child<P>> {
+    /// Sleeps until the child of a task has ended.
+    pub(crate) fn wait<K: Clock>(&mut self, clock: &K) -> Result<Option<End>, NoMemory>
+        ensures calls { calls self.new.list ≡ calls self.old.list }
+        ensures end { IfOk result (λ end. IfSome end (IsEnd self.new.list)) }
+    {
+        wait(clock, &mut self.items)
+    }
 }

@@ -138,6 +138,47 @@ fn passes_words_and_takes_results(rt: HostRuntime) -> Result<(), Fail> {
 }
 
 #[test]
+fn reads_nothing_and_prints_to_nobody(rt: HostRuntime) -> Result<(), Fail> {
+    let alloc = rt.alloc();
+    let script =
+        "i=$(readlink /proc/$$/fd/0)\no=$(readlink /proc/$$/fd/1)\ne=$(readlink /proc/$$/fd/2)\nprintf '%s' \"$i $o $e $(wc -c) $(pwd)\" > \"$1\"\n";
+    fs::write(&rt, "proc_streams.sh", script)?;
+    let (outs, _) = run(
+        &rt,
+        &job(alloc, 12, "sh", "proc_streams.sh", one(alloc, Arg::OutStr)?)?,
+    )?;
+    let outs = outs.ok_or("the task failed")?;
+    let good = match outs.items() {
+        [Value::Str { s }] => s
+            .bytes()
+            .starts_with(b"/dev/null /dev/null /dev/null 0 /"),
+        _ => false,
+    };
+    assert!(rt; good);
+    Ok(())
+}
+
+#[test]
+fn leaves_the_place_of_a_given_number_alone(rt: HostRuntime) -> Result<(), Fail> {
+    let alloc = rt.alloc();
+    fs::write(&rt, "proc_count.sh", "printf \"$1\" > \"$2\"\n")?;
+    fs::create_dir_all(&rt, ".gs.stage")?;
+    fs::write(&rt, ".gs.stage/41.1", "other")?;
+    let mut args = one(
+        alloc,
+        Arg::Given {
+            v: Value::Int { v: 7 },
+        },
+    )?;
+    args.push(Arg::OutInt)?;
+    let (outs, faults) = run(&rt, &job(alloc, 41, "sh", "proc_count.sh", args)?)?;
+    assert_eq!(rt; faults, 0);
+    assert!(rt; outs.is_some());
+    assert!(rt; fs::exists(&rt, ".gs.stage/41.1")? && !fs::exists(&rt, ".gs.stage/41.2")?);
+    Ok(())
+}
+
+#[test]
 fn fails_and_counts(rt: HostRuntime) -> Result<(), Fail> {
     let alloc = rt.alloc();
     fs::write(&rt, "proc_plus.sh", "printf +5 > \"$1\"\n")?;

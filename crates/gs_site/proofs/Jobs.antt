@@ -1,6 +1,6 @@
 -- The jobs of a link in memory at its calls.
 use Rattle.std.proofs.Common.{◌≡◌, ◌⊎◌, ◌<◌, ℕ, Bool, refl, ap, inl, inr, is_some, List, [], ◌∷◌, length, arith, Option, Some, None, IsSome, eq-eqb, if◌then◌else◌}
-use Rattle.std.specs.Prelude.{◌==◌, ◌%◌}
+use Rattle.std.specs.Prelude.{◌%◌}
 use Rattle.gs_types.specs.History.{History, abandoned}
 use Rattle.gs_types.specs.declared.job.Job.{Job}
 use Rattle.gs_site.specs.Desk.{after_abandon}

@@ -4,5 +4,6 @@ pub mod History
 pub mod HistoryLaws
 pub mod Job
 pub mod Name
+pub mod NameTest
 pub mod Sink
 pub mod Text

@@ -1,6 +1,6 @@
 use Rattle.std.proofs.Common.{◌≡◌, true, false, refl}
-use Rattle.gs_form.specs.Named.{is_name}
-use Rattle.gs_form.proofs.WordLaws.{name_gives, bad_name}
+use Rattle.gs_types.specs.NameTest.{is_name}
+use Rattle.gs_types.specs.NameTest.{name_gives, bad_name}
 use Rattle.gs_form.proofs.words.next_name.Goals as goal
 
 pub returns-in-Ok : goal.returns-in-Ok

@@ -129,3 +129,17 @@ returns-clause-held g c = λ told.
     let log = c.requires.stands told _ (g.met.D.Disk.reads_an_image told c.args.disk.now) in
     let stands = stands_staged c.args.list.now c.args.payload.now c.end-end.result c.end-end.ensures c.requires.small c.requires.room c.args.closed.now c.requires.spelled (g.D.Disk.state c.args.disk.now).folder (g.D.Disk.state c.write.new.self).folder (g.D.Disk.state c.sync.new.self).folder log r1 t1.others (c.sync.ensures.same told) in
     held c.args.list.now c.args.payload.now c.end-end.result c.end-end.ensures c.requires.small c.requires.room (g.D.Disk.state c.sync.new.self).folder (g.D.Disk.state c.write-2.new.self).folder (g.D.Disk.state c.sync-2.new.self).folder stands r2 t2.others (c.sync-2.ensures.same told)
+
+pub returns-in_err-write-clause-images : goal.returns-in_err-write-clause-images
+returns-in_err-write-clause-images g c = λ told.
+    let name = c.log_file-log.ensures in
+    let w1 = subst (λ (n : List ℕ). Passes (Tears n (c.end-end.result + 1) (length c.args.closed.now)) (g.D.Disk.state c.args.disk.now) (g.D.Disk.state c.write.new.self)) name (c.write.ensures.images told) in
+    let one = keeps_write _ _ _ _ _ _ _ (keeps_started (log_name ∷ []) (g.D.Disk.state c.args.disk.now)) w1 (λ x out. out) in
+    one
+
+pub returns-in_err-sync-clause-images : goal.returns-in_err-sync-clause-images
+returns-in_err-sync-clause-images g c = λ told.
+    let name = c.log_file-log.ensures in
+    let w1 = subst (λ (n : List ℕ). Passes (Tears n (c.end-end.result + 1) (length c.args.closed.now)) (g.D.Disk.state c.args.disk.now) (g.D.Disk.state c.write.new.self)) name (c.write.ensures.images told) in
+    let one = keeps_write _ _ _ _ _ _ _ (keeps_started (log_name ∷ []) (g.D.Disk.state c.args.disk.now)) w1 (λ x out. out) in
+    keeps_same _ _ _ _ one (c.sync.ensures.images told)

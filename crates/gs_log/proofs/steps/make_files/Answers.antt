@@ -4,7 +4,7 @@ use Rattle.gs_disk.specs.Moments.{Passes}
 use Rattle.gs_disk.specs.Going.{always_same, keeps_started, keeps_files, keeps_write, keeps_same}
 use Rattle.gs_log.specs.Names.{log_name, mark_name}
 use Rattle.gs_log.specs.Holding.{IsNoneOrEmpty}
-use Rattle.gs_log.proofs.Create.{logged, kept_through, bare_made, bare_wrote, bare_synced, marked, held_empty}
+use Rattle.gs_log.proofs.Create.{logged, kept_through, bare_made, bare_wrote, bare_synced, fine, marked, held_empty}
 use Rattle.gs_log.proofs.steps.make_files.Goals as goal
 
 pub returns-in_err-create-2-clause-any_moment : goal.returns-in_err-create-2-clause-any_moment
@@ -104,3 +104,68 @@ returns-clause-held g c = λ told.
     let m4 = subst (λ (n : List ℕ). (g.D.Disk.state c.create-2.new.self).folder n ≡ Some []) mn (c.in_ok-create-2.ensures.made told) in
     let log = logged (g.D.Disk.state c.create.new.self).folder (g.D.Disk.state c.write.new.self).folder (g.D.Disk.state c.sync.new.self).folder m1 r2 (c.sync.ensures.same told) in
     held_empty (g.D.Disk.state c.sync.new.self).folder (g.D.Disk.state c.create-2.new.self).folder (g.D.Disk.state c.sync-2.new.self).folder log o4 m4 (c.sync-2.ensures.same told)
+
+pub returns-in_err-create-clause-any_moment : goal.returns-in_err-create-clause-any_moment
+returns-in_err-create-clause-any_moment g c = λ told.
+    let ln = c.log_file-log.ensures in
+    let p1 = subst (λ (n : List ℕ). Passes (KeepsOthers (n ∷ [])) (g.D.Disk.state c.args.disk.now) (g.D.Disk.state c.create.new.self)) ln (c.create.ensures.images told) in
+    let b1 = bare_made (g.D.Disk.state c.args.disk.now) (c.requires.unmarked told) (g.D.Disk.state c.create.new.self) p1 in
+    fine (g.D.Disk.state c.args.disk.now) (c.requires.unmarked told) (g.D.Disk.state c.create.new.self) b1
+
+pub returns-in_err-create-clause-images : goal.returns-in_err-create-clause-images
+returns-in_err-create-clause-images g c = λ told.
+    let ln = c.log_file-log.ensures in
+    let p1 = subst (λ (n : List ℕ). Passes (KeepsOthers (n ∷ [])) (g.D.Disk.state c.args.disk.now) (g.D.Disk.state c.create.new.self)) ln (c.create.ensures.images told) in
+    let k1 = keeps_files _ _ _ _ _ (keeps_started (log_name ∷ mark_name ∷ []) (g.D.Disk.state c.args.disk.now)) p1 (λ x out. (out.0, tt)) in
+    k1
+
+pub returns-in_err-write-clause-any_moment : goal.returns-in_err-write-clause-any_moment
+returns-in_err-write-clause-any_moment g c = λ told.
+    let ln = c.log_file-log.ensures in
+    let p1 = subst (λ (n : List ℕ). Passes (KeepsOthers (n ∷ [])) (g.D.Disk.state c.args.disk.now) (g.D.Disk.state c.create.new.self)) ln (c.create.ensures.images told) in
+    let p2 = subst (λ (n : List ℕ). Passes (Tears n 0 1) (g.D.Disk.state c.create.new.self) (g.D.Disk.state c.write.new.self)) ln (c.write.ensures.images told) in
+    let b1 = bare_made (g.D.Disk.state c.args.disk.now) (c.requires.unmarked told) (g.D.Disk.state c.create.new.self) p1 in
+    let b2 = bare_wrote (g.D.Disk.state c.args.disk.now) (c.requires.unmarked told) 0 1 (g.D.Disk.state c.create.new.self) (g.D.Disk.state c.write.new.self) b1 p2 in
+    fine (g.D.Disk.state c.args.disk.now) (c.requires.unmarked told) (g.D.Disk.state c.write.new.self) b2
+
+pub returns-in_err-write-clause-images : goal.returns-in_err-write-clause-images
+returns-in_err-write-clause-images g c = λ told.
+    let ln = c.log_file-log.ensures in
+    let p1 = subst (λ (n : List ℕ). Passes (KeepsOthers (n ∷ [])) (g.D.Disk.state c.args.disk.now) (g.D.Disk.state c.create.new.self)) ln (c.create.ensures.images told) in
+    let p2 = subst (λ (n : List ℕ). Passes (Tears n 0 1) (g.D.Disk.state c.create.new.self) (g.D.Disk.state c.write.new.self)) ln (c.write.ensures.images told) in
+    let k1 = keeps_files _ _ _ _ _ (keeps_started (log_name ∷ mark_name ∷ []) (g.D.Disk.state c.args.disk.now)) p1 (λ x out. (out.0, tt)) in
+    let k2 = keeps_write _ _ _ _ _ _ _ k1 p2 (λ x out. (out.0, tt)) in
+    k2
+
+pub returns-in_err-sync-clause-any_moment : goal.returns-in_err-sync-clause-any_moment
+returns-in_err-sync-clause-any_moment g c = λ told.
+    let ln = c.log_file-log.ensures in
+    let p1 = subst (λ (n : List ℕ). Passes (KeepsOthers (n ∷ [])) (g.D.Disk.state c.args.disk.now) (g.D.Disk.state c.create.new.self)) ln (c.create.ensures.images told) in
+    let p2 = subst (λ (n : List ℕ). Passes (Tears n 0 1) (g.D.Disk.state c.create.new.self) (g.D.Disk.state c.write.new.self)) ln (c.write.ensures.images told) in
+    let b1 = bare_made (g.D.Disk.state c.args.disk.now) (c.requires.unmarked told) (g.D.Disk.state c.create.new.self) p1 in
+    let b2 = bare_wrote (g.D.Disk.state c.args.disk.now) (c.requires.unmarked told) 0 1 (g.D.Disk.state c.create.new.self) (g.D.Disk.state c.write.new.self) b1 p2 in
+    let b3 = bare_synced (g.D.Disk.state c.args.disk.now) (c.requires.unmarked told) (g.D.Disk.state c.write.new.self) (g.D.Disk.state c.sync.new.self) b2 (c.sync.ensures.images told) in
+    fine (g.D.Disk.state c.args.disk.now) (c.requires.unmarked told) (g.D.Disk.state c.sync.new.self) b3
+
+pub returns-in_err-sync-clause-images : goal.returns-in_err-sync-clause-images
+returns-in_err-sync-clause-images g c = λ told.
+    let ln = c.log_file-log.ensures in
+    let p1 = subst (λ (n : List ℕ). Passes (KeepsOthers (n ∷ [])) (g.D.Disk.state c.args.disk.now) (g.D.Disk.state c.create.new.self)) ln (c.create.ensures.images told) in
+    let p2 = subst (λ (n : List ℕ). Passes (Tears n 0 1) (g.D.Disk.state c.create.new.self) (g.D.Disk.state c.write.new.self)) ln (c.write.ensures.images told) in
+    let k1 = keeps_files _ _ _ _ _ (keeps_started (log_name ∷ mark_name ∷ []) (g.D.Disk.state c.args.disk.now)) p1 (λ x out. (out.0, tt)) in
+    let k2 = keeps_write _ _ _ _ _ _ _ k1 p2 (λ x out. (out.0, tt)) in
+    let k3 = keeps_same _ _ _ _ k2 (c.sync.ensures.images told) in
+    k3
+
+pub returns-in_err-create-2-clause-images : goal.returns-in_err-create-2-clause-images
+returns-in_err-create-2-clause-images g c = λ told.
+    let ln = c.log_file-log.ensures in
+    let mn = c.mark_file-mark.ensures in
+    let p1 = subst (λ (n : List ℕ). Passes (KeepsOthers (n ∷ [])) (g.D.Disk.state c.args.disk.now) (g.D.Disk.state c.create.new.self)) ln (c.create.ensures.images told) in
+    let p2 = subst (λ (n : List ℕ). Passes (Tears n 0 1) (g.D.Disk.state c.create.new.self) (g.D.Disk.state c.write.new.self)) ln (c.write.ensures.images told) in
+    let p4 = subst (λ (n : List ℕ). Passes (KeepsOthers (n ∷ [])) (g.D.Disk.state c.sync.new.self) (g.D.Disk.state c.create-2.new.self)) mn (c.create-2.ensures.images told) in
+    let k1 = keeps_files _ _ _ _ _ (keeps_started (log_name ∷ mark_name ∷ []) (g.D.Disk.state c.args.disk.now)) p1 (λ x out. (out.0, tt)) in
+    let k2 = keeps_write _ _ _ _ _ _ _ k1 p2 (λ x out. (out.0, tt)) in
+    let k3 = keeps_same _ _ _ _ k2 (c.sync.ensures.images told) in
+    let k4 = keeps_files _ _ _ _ _ k3 p4 (λ x out. (out.1.0, tt)) in
+    k4

@@ -11,7 +11,8 @@ loop-i-preserved g c =
     let word : c.as_str.result.now ≡ word_at c.args.job.now.n (c.loop-i.i + 1) (get_or c.args.job.now.args c.loop-i.i c.arg-item.result) =
     c.as_str.ensures.value ∙ c.in_ok-word.ensures
     ∙ ap (λ (arg : Arg). word_at c.args.job.now.n (c.loop-i.i + 1) arg) c.arg-item.is
-    ∙ ap (λ (xs : List Arg). word_at c.args.job.now.n (c.loop-i.i + 1) (get_or xs c.loop-i.i c.arg-item.result)) items in (
-      c.in_ok-add_word-2.ensures.program ∙ c.loop-i.invariant.0,
-      words_behind c.args.job.now.op c.as_str.result.now c.args.job.now.n c.loop-i.i c.args.job.now.args c.arg-item.result _ _ lt c.loop-i.invariant.1 c.in_ok-add_word-2.ensures.args word,
-    )
+    ∙ ap (λ (xs : List Arg). word_at c.args.job.now.n (c.loop-i.i + 1) (get_or xs c.loop-i.i c.arg-item.result)) items in record {
+      program = c.in_ok-add_word-2.ensures.program ∙ c.loop-i.invariant.program;
+      args = words_behind c.args.job.now.op c.as_str.result.now c.args.job.now.n c.loop-i.i c.args.job.now.args c.arg-item.result _ _ lt c.loop-i.invariant.args c.in_ok-add_word-2.ensures.args word;
+      plain = c.in_ok-add_word-2.ensures.place c.loop-i.invariant.plain;
+    }

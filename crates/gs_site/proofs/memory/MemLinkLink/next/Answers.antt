@@ -1,10 +1,9 @@
-use Rattle.std.proofs.Common.{◌≡◌, ◌≤◌, ◌<◌, ◌∙◌, ap, sym, subst, ℕ, ◌∷◌, length, rules, Option, Some, IsSome}
+use Rattle.std.proofs.Common.{◌≡◌, ◌≤◌, ◌<◌, ◌∙◌, ap, sym, subst, ℕ, ◌∷◌, length, rules, IsSome}
 use Rattle.gs_types.specs.History.{History}
 use Rattle.gs_types.specs.declared.job.Job.{Job}
 use Rattle.gs_site.specs.Desk.{DeskState}
 use Rattle.gs_site.specs.Jobs.{job_at}
 use Rattle.gs_site.specs.Link.{IsByLaw}
-use Rattle.gs_site.specs.Memory.{EndsBy}
 use Rattle.gs_site.specs.Past.{event_told}
 use Rattle.gs_site.proofs.Ends.{ends_fitting, ends_by_law, counts_end, event_after}
 use Rattle.gs_site.specs.JobFacts.{busy_some, job_without}
