@@ -1,33 +1,26 @@
 -- Worked examples of the meaning: small programs with their questions, step by step.
-use Rattle.std.proofs.Common.{◌≡◌, ℕ, List, [], ◌∷◌, ◌++◌, Option, Some, None, refl}
-use Rattle.std.specs.Fmt.{decimal}
-use Rattle.std.specs.Prelude.{pos, negsuc, codes, true, false}
-use Rattle.gs_idl.specs.Interface.{Param, Signature}
+use Rattle.std.proofs.Common.{◌≡◌, ℕ, List, [], ◌∷◌, Option, Some, None, refl}
+use Rattle.std.specs.Prelude.{pos, codes, false}
+use Rattle.gs_idl.specs.Interface.{Signature}
 use Rattle.gs_idl.specs.declared.idl.Dir.TheVariants.{Input, Both, Output}
 use Rattle.gs_idl.specs.declared.idl.ParamKind.TheVariants as kind
 use Rattle.gs_tree.specs.declared.tree.Op.TheVariants.{Lt, Add, Sub, Div}
-use Rattle.gs_tree.specs.declared.tree.Mode.TheVariants.{R, W, A}
+use Rattle.gs_tree.specs.declared.tree.Mode.TheVariants.{W, A}
 use Rattle.gs_tree.specs.declared.tree.VarKind.{VarKind}
 use Rattle.gs_tree.specs.declared.tree.VarKind.TheVariants as var_kind
-use Rattle.gs_tree.specs.Program.{Name, Term, num, lit, var, two, neg, Setting, Passed, Code, set, while, call, open_file, print_file, close_file, print, Codes, none, one, Program}
-use Rattle.gs_types.specs.declared.value.Value.TheVariants.{Int, Str}
-use Rattle.gs_types.specs.declared.settings.FaultKind.TheVariants.{Overflow, OwnText, SameOut, FileOpen}
+use Rattle.gs_tree.specs.Program.{Name, Term, num, lit, var, two, neg, Setting, Passed, set, while, call, open_file, print_file, close_file, print, Codes, none, one}
+use Rattle.gs_types.specs.declared.settings.FaultKind.TheVariants.{Overflow, OwnText, FileOpen}
 use Rattle.gs_talk.specs.declared.question.CallArg.TheVariants as arg
 use Rattle.gs_talk.specs.declared.question.Question.{Question}
-use Rattle.gs_talk.specs.declared.question.Question.TheVariants.{Call, Use, OpenFile, CloseFile, End, Fault, FuelOut}
-use Rattle.gs_talk.specs.declared.question.Answer.{Answer}
-use Rattle.gs_talk.specs.declared.question.Answer.TheVariants.{Went, Val, Bytes, Absent}
-use Rattle.gs_talk.specs.Values.{atoi_of}
-use Rattle.gs_talk.specs.Texts.{formatted, read_line_at}
-use Rattle.gs_talk.specs.Talk.{Given, State, Outcome, Goes, Asks, talk, turns, is_name}
+use Rattle.gs_talk.specs.declared.question.Question.TheVariants.{Call, Use, CloseFile, End, Fault, FuelOut}
+use Rattle.gs_talk.specs.declared.question.Answer.TheVariants.{Went, Absent}
+use Rattle.gs_types.specs.NameTest.{is_name}
+use Rattle.gs_talk.specs.Texts.{formatted}
+use Rattle.gs_talk.specs.Talk.{Given, Outcome, Goes, Asks, talk, turns}
 
 asked : Outcome → Option Question
 asked (Goes n s rest) = None
 asked (Asks q s) = Some q
-
-text_after : Outcome → List ℕ
-text_after (Goes n s rest) = []
-text_after (Asks q s) = s.text
 
 named : List ℕ → Name
 named text = record { line = 1; text = text }
@@ -99,19 +92,15 @@ number_is_waited_for_where_it_is_printed : asked (talk counting 100 (Went ∷ We
 unfolding counting given kit n named file passed asked is_name formatted
 number_is_waited_for_where_it_is_printed = refl
 
-text_has_the_number : text_after (talk counting 100 (Went ∷ Went ∷ Val (Int (pos 4)) ∷ [])) ≡ decimal 4 ++ codes "\n"
-unfolding counting given kit n named file passed text_after is_name formatted
-text_has_the_number = refl
-
--- ---- f = GS_FOpen("Q", A); fprintf(f, "%d\n", 7); GS_FClose(f);
+-- ---- f = GS_FOpen("Q", A); fprintf(f, "%s\n", "7"); GS_FClose(f);
 
 appending : Given
 appending = given ((named (codes "f"), var_kind.Handle) ∷ []) []
     (one (open_file 1 (named (codes "f")) (file (codes "Q")) A)
-    (one (print_file 1 (named (codes "f")) (record { line = 1; text = codes "%d\n" }) (num 1 (pos 7) ∷ []))
+    (one (print_file 1 (named (codes "f")) (record { line = 1; text = codes "%s\n" }) (lit 1 (codes "7") ∷ []))
     (one (close_file 1 (named (codes "f"))) none)))
 
-an_absent_file_is_empty : asked (talk appending 100 (Absent ∷ [])) ≡ Some (CloseFile (codes "Q") (decimal 7 ++ codes "\n"))
+an_absent_file_is_empty : asked (talk appending 100 (Absent ∷ [])) ≡ Some (CloseFile (codes "Q") (codes "7\n"))
 unfolding appending given kit named file asked is_name formatted
 an_absent_file_is_empty = refl
 

@@ -3,3 +3,4 @@ pub mod Values
 pub mod Texts
 pub mod Talk
 pub mod Seq
+pub mod Actions

@@ -1,20 +1,20 @@
 -- What a main program asks.
-use Rattle.std.specs.Prelude.{ℕ, zero, suc, ◌+◌, ◌==◌, ℤ, pos, ◌-ℤ◌, nat_lt, nat_le, Bool, true, false, not, ◌&&◌, ◌||◌, map, set, slice_get, List, [], ◌∷◌, ◌++◌, length, count_by, Option, Some, None, is_some, Result, Ok, Err, if◌then◌else◌}
-use Rattle.std.specs.Option.{option_map, option_or}
-use Rattle.std.specs.List.{list_any, list_all}
+use Rattle.std.specs.Prelude.{ℕ, zero, suc, ◌+◌, ℤ, pos, ◌-ℤ◌, nat_lt, nat_le, Bool, true, false, not, ◌&&◌, ◌||◌, map, set, slice_get, List, [], ◌∷◌, ◌++◌, length, count_by, Option, Some, None, is_some, Result, Ok, Err, if◌then◌else◌}
+use Rattle.std.specs.Option.{option_or}
+use Rattle.std.specs.List.{list_any}
 use Rattle.std.specs.Str.{bytes_eq}
-use Rattle.gs_idl.specs.Interface.{Param, Signature, op_place, params_at, is_out_scalar, is_file, writes_file}
+use Rattle.gs_idl.specs.Interface.{Param, Signature, op_place, params_at, is_out_scalar, writes_file}
 use Rattle.gs_idl.specs.declared.idl.ParamKind.{ParamKind}
 use Rattle.gs_idl.specs.declared.idl.ParamKind.TheVariants as kind
 use Rattle.gs_tree.specs.declared.tree.Mode.{Mode}
 use Rattle.gs_tree.specs.declared.tree.Mode.TheVariants.{R, W, A}
 use Rattle.gs_tree.specs.declared.tree.VarKind.{VarKind}
 use Rattle.gs_tree.specs.declared.tree.VarKind.TheVariants as var_kind
-use Rattle.gs_tree.specs.Program.{Term, num, lit, var, atoi, strcmp, neg, not_, two, Setting, Formatted, Passed, Code, empty, block, set as assign, choose, while, for, open_file, read_line, close_file, barrier, print, print_file, print_str, call, Codes, none, one, MaybeCodes, without, otherwise, Program}
-use Rattle.gs_types.specs.Name.{is_name_byte}
-use Rattle.gs_types.specs.declared.limits.TheConstants.{FILE_LIMIT, STRING_LIMIT, PRINTED_LIMIT, NAME_LENGTH, TASK_LIMIT, ACTION_LIMIT, NAME_LIMIT, HANDLE_LIMIT}
+use Rattle.gs_tree.specs.Program.{Term, num, var, Setting, Passed, Code, empty, block, set as assign, choose, while, for, open_file, read_line, close_file, barrier, print, print_file, print_str, call, Codes, none, one, MaybeCodes, without, otherwise, Program}
+use Rattle.gs_types.specs.NameTest.{is_name}
+use Rattle.gs_types.specs.declared.limits.TheConstants.{FILE_LIMIT, STRING_LIMIT, PRINTED_LIMIT, TASK_LIMIT, ACTION_LIMIT, NAME_LIMIT, HANDLE_LIMIT}
 use Rattle.gs_types.specs.declared.value.Value.{Value}
-use Rattle.gs_types.specs.declared.value.Value.TheVariants.{Int, Str, File}
+use Rattle.gs_types.specs.declared.value.Value.TheVariants.{Int, Str}
 use Rattle.gs_types.specs.declared.settings.FaultKind.{FaultKind}
 use Rattle.gs_types.specs.declared.settings.FaultKind.TheVariants.{StringTooLong, TextTooLong, FileTooLong, BadName, NoFile, OwnText, SameOut, FileOpen, HandleOpen, HandleClosed, WrongMode, TooManyOpen, TooManyTasks, TooManyActions, TooManyNames, StillOpen}
 use Rattle.gs_talk.specs.declared.slot.Slot.{Slot}
@@ -188,14 +188,6 @@ abbrev pub writes : Mode → Bool
 writes R = false
 writes W = true
 writes A = true
-
-abbrev pub begins_with_dot : List ℕ → Bool
-begins_with_dot [] = false
-begins_with_dot (b ∷ w) = b == 46
-
--- 1 to 200 letters, digits, `.`, `_` and `-`, of which the first is no `.`
-unfoldable pub is_name : List ℕ → Bool
-is_name w = nat_le 1 (length w) && (nat_le (length w) NAME_LENGTH && (list_all is_name_byte w && not (begins_with_dot w)))
 
 abbrev pub is_own_text : Given → List ℕ → Bool
 is_own_text t name = bytes_eq name t.idl_name || bytes_eq name t.program_name

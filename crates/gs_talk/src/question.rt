@@ -22,15 +22,28 @@ pub enum Question {
         args: Sequence<CallArg>,
     },
     /// The value that task `n` left at a place, from 1.
-    Use { n: u32, place: u8 },
+    Use {
+        n: u32,
+        place: u8,
+    },
     /// The content of a file that is opened to be read or appended to.
-    OpenFile { name: Name, mode: Mode, line: u32 },
+    OpenFile {
+        name: Name,
+        mode: Mode,
+        line: u32,
+    },
     /// A file that was written is closed, with its content.
-    CloseFile { name: Name, bytes: Blob },
+    CloseFile {
+        name: Name,
+        bytes: Blob,
+    },
     /// All tasks so far are to be done.
     Barrier,
     End,
-    Fault { line: u32, kind: FaultKind },
+    Fault {
+        line: u32,
+        kind: FaultKind,
+    },
     FuelOut,
 }
 
