@@ -1,0 +1,34 @@
+-- Prefixes and places of lists.
+use Rattle.std.proofs.Common.{◌≡◌, ◌<◌, ◌≤◌, ◌+◌, ℕ, zero, suc, refl, sym, ap, ◌∙◌, List, [], ◌∷◌, ◌++◌, length, Option, Some, None, slice_get, ◌⊎◌, inl, inr, append_assoc, append-nil, arith}
+use Rattle.gs_talk_laws.specs.Fuels.{IsPrefixOf}
+
+pub prefix_same : {A : Type 0} (xs : List A) → IsPrefixOf xs xs
+prefix_same xs = ([], append-nil xs)
+
+pub prefix_then : {A : Type 0} (xs ys zs : List A) → IsPrefixOf xs ys → IsPrefixOf ys zs → IsPrefixOf xs zs
+prefix_then xs ys zs h k = (h.0 ++ k.0, sym (append_assoc xs h.0 k.0) ∙ ap (λ l. l ++ k.0) h.1 ∙ k.1)
+
+get_front : {A : Type 0} (xs ys : List A) (i : ℕ) (x : A) → slice_get xs i ≡ Some x → slice_get (xs ++ ys) i ≡ Some x
+get_front [] ys i x h = absurd (cc)
+get_front (y ∷ xs) ys zero x h = h
+get_front (y ∷ xs) ys (suc i) x h = get_front xs ys i x h
+
+-- what stands in a list stands in a longer one
+pub get_longer : {A : Type 0} (xs ys : List A) (i : ℕ) (x : A) → IsPrefixOf xs ys → slice_get xs i ≡ Some x → slice_get ys i ≡ Some x
+get_longer xs ys i x h e = ap (λ l. slice_get l i) (sym h.1) ∙ get_front xs h.0 i x e
+
+pub get_last : {A : Type 0} (xs : List A) (x : A) → slice_get (xs ++ x ∷ []) (length xs) ≡ Some x
+get_last [] x = refl
+get_last (y ∷ xs) x = get_last xs x
+
+pub get_kept : {A : Type 0} (xs ys : List A) (i : ℕ) → i < length xs → slice_get (xs ++ ys) i ≡ slice_get xs i
+get_kept [] ys i lt = absurd (omega arith)
+get_kept (x ∷ xs) ys zero lt = refl
+get_kept (x ∷ xs) ys (suc i) lt = get_kept xs ys i (omega arith)
+
+-- a place of a list with one more is an old one, or the last
+pub get_either : {A : Type 0} (xs : List A) (x : A) (i : ℕ) (y : A) → slice_get (xs ++ x ∷ []) i ≡ Some y → (slice_get xs i ≡ Some y) ⊎ ((i ≡ length xs) × (x ≡ y))
+get_either [] x zero y h = inr (refl, cc)
+get_either [] x (suc i) y h = absurd (cc)
+get_either (z ∷ xs) x zero y h = inl h
+get_either (z ∷ xs) x (suc i) y h = elim (get_either xs x i y h) [ inl e ↦ inl e | inr e ↦ inr (ap suc e.0, e.1) ]
