@@ -6,8 +6,9 @@ use Rattle.gs_talk.specs.declared.question.Question.TheVariants.{Call, Use, Open
 use Rattle.gs_talk.specs.declared.question.Answer.{Answer}
 use Rattle.gs_talk.specs.Talk.{State, Dialogue, Done, Ask, Stop, Asks, dialogue, after}
 use Rattle.gs_talk.specs.Seq.{Run, World, Task, Standing, seq, start, step, step_by, answered, reply, world_after, any_lost, last_by, last_of, task_at, EndsIn, IsTask}
-use Rattle.gs_talk_laws.specs.Fuels.{IsPrefixOf, Cut, MoreFuel, with_fuel, answered_by, exchange, exchanges, FuelPrefix, HasRunOut, Alike, SameStandings, TasksGoOn, SameTasks, closed_at, IsClosed, SameClosed, SameEnd, OneEnd}
-use Rattle.gs_talk_laws.proofs.Lists.{get_longer}
+use Rattle.gs_talk_laws.specs.Fuels.{IsPrefixOf, Cut, MoreFuel, with_fuel, answered_by, exchange, exchanges, FuelPrefix, HasRunOut, Alike, SameStandings, TasksGoOn, SameTasks, IsClosed, SameClosed, SameEnd, OneEnd}
+use Rattle.gs_talk_laws.specs.Numbers.{at_number}
+use Rattle.gs_talk_laws.proofs.Lists.{get_longer, number_longer}
 use Rattle.gs_talk_laws.proofs.Staying.{Grown, seq_grown, next_seq, next_exchanges, seq_exchanged, stays}
 use Rattle.gs_talk_laws.proofs.Statements.{dialogue_cut}
 use Rattle.gs_talk_laws.proofs.Ending.{NeverDone, seq_never}
@@ -170,9 +171,8 @@ task_later : (r : Run) (k more n : ℕ) (t : Task) → k ≤ more → task_at (s
 task_later r k more zero t le e = absurd (cc)
 task_later r k more (suc n) t le e = get_longer (seq r k).world.tasks (seq r more).world.tasks n t (seq_grown r k more le).tasks e
 
-closed_later : (r : Run) (k more n : ℕ) (b : List ℕ) → k ≤ more → closed_at (seq r k).world.closed n ≡ Some b → closed_at (seq r more).world.closed n ≡ Some b
-closed_later r k more zero b le e = absurd (cc)
-closed_later r k more (suc n) b le e = get_longer (seq r k).world.closed (seq r more).world.closed n b (seq_grown r k more le).closed e
+closed_later : (r : Run) (k more n : ℕ) (b : List ℕ) → k ≤ more → at_number (seq r k).world.closed n ≡ Some b → at_number (seq r more).world.closed n ≡ Some b
+closed_later r k more n b le e = number_longer (seq r k).world.closed (seq r more).world.closed n b (seq_grown r k more le).closed e
 
 -- a task of a run is one
 pub one_task : (r : Run) (n : ℕ) (t u : Task) → IsTask r n t → IsTask r n u → t ≡ u
@@ -197,7 +197,7 @@ tasks_go_on r fuel more n t le h =
 closed_go_on : (r : Run) (fuel more n : ℕ) (b : List ℕ) → fuel ≤ more → IsClosed (with_fuel r fuel) n b → IsClosed (with_fuel r more) n b
 closed_go_on r fuel more n b le h =
     let there = reached r fuel more h.moment le in
-    record { moment = there.moment; is = ap (λ w. closed_at w.closed n) (sym there.along.world) ∙ h.is }
+    record { moment = there.moment; is = ap (λ w. at_number w.closed n) (sym there.along.world) ∙ h.is }
 
 pub same_tasks : SameTasks
 same_tasks r fuel more n t u a b = by_order (cases_lt more fuel)

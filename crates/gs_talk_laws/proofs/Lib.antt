@@ -4,3 +4,6 @@ pub mod Lists
 pub mod Staying
 pub mod Ending
 pub mod Fuels
+pub mod Dues
+pub mod Proper
+pub mod Programs

@@ -1,6 +1,7 @@
 -- Prefixes and places of lists.
 use Rattle.std.proofs.Common.{◌≡◌, ◌<◌, ◌≤◌, ◌+◌, ℕ, zero, suc, refl, sym, ap, ◌∙◌, List, [], ◌∷◌, ◌++◌, length, Option, Some, None, slice_get, ◌⊎◌, inl, inr, append_assoc, append-nil, arith}
 use Rattle.gs_talk_laws.specs.Fuels.{IsPrefixOf}
+use Rattle.gs_talk_laws.specs.Numbers.{at_number}
 
 pub prefix_same : {A : Type 0} (xs : List A) → IsPrefixOf xs xs
 prefix_same xs = ([], append-nil xs)
@@ -16,6 +17,19 @@ get_front (y ∷ xs) ys (suc i) x h = get_front xs ys i x h
 -- what stands in a list stands in a longer one
 pub get_longer : {A : Type 0} (xs ys : List A) (i : ℕ) (x : A) → IsPrefixOf xs ys → slice_get xs i ≡ Some x → slice_get ys i ≡ Some x
 get_longer xs ys i x h e = ap (λ l. slice_get l i) (sym h.1) ∙ get_front xs h.0 i x e
+
+pub number_longer : {A : Type 0} (xs ys : List A) (n : ℕ) (x : A) → IsPrefixOf xs ys → at_number xs n ≡ Some x → at_number ys n ≡ Some x
+number_longer xs ys zero x h e = absurd (cc)
+number_longer xs ys (suc n) x h e = get_longer xs ys n x h e
+
+pub get_within : {A : Type 0} (xs : List A) (i : ℕ) (x : A) → slice_get xs i ≡ Some x → i < length xs
+get_within [] i x e = absurd (cc)
+get_within (y ∷ xs) zero x e = omega arith
+get_within (y ∷ xs) (suc i) x e = let lt = get_within xs i x e in omega arith
+
+pub number_within : {A : Type 0} (xs : List A) (n : ℕ) (x : A) → at_number xs n ≡ Some x → n ≤ length xs
+number_within xs zero x e = omega arith
+number_within xs (suc n) x e = let lt = get_within xs n x e in omega arith
 
 pub get_last : {A : Type 0} (xs : List A) (x : A) → slice_get (xs ++ x ∷ []) (length xs) ≡ Some x
 get_last [] x = refl

@@ -72,10 +72,10 @@ opening_grows x line to name R n s = asks_to_open_grows x line to name R n s
 opening_grows x line to name W n s = done_grows x n _
 opening_grows x line to name A n s = asks_to_open_grows x line to name A n s
 
-abbrev noting_one : Value → State → State
+abbrev pub noting_one : Value → State → State
 noting_one v u = noting (with_name u.names (text_of v)) u
 
-abbrev opens : Given → (line to : ℕ) → Mode → ℕ → Then
+abbrev pub opens : Given → (line to : ℕ) → Mode → ℕ → Then
 opens t line to m n v u = unless (open_fault t u to (text_of v) m) line u (opening line to (text_of v) m n (noting_one v u))
 
 open_grows : (x : ℕ) (t : Given) (line to : ℕ) (path : Placed) (m : Mode) → Grows x (do_open t line to path m) (do_open t line to path m)
@@ -138,10 +138,10 @@ went_grows x (Bytes b) line args n s = done_grows x n _
 calling_grows : (x line op : ℕ) (args : List Handed) (vs : List CallArg) → Grows x (calling line op args vs) (calling line op args vs)
 calling_grows x line op args vs n s = ask_extends x n line s (Call op line vs) numbered (λ u a. went a line args n (numbered u)) (λ u a. went a line args (n + x) (numbered u)) (λ u a. went_grows x a line args n (numbered u))
 
-abbrev noting_all : List CallArg → State → State
+abbrev pub noting_all : List CallArg → State → State
 noting_all vs u = noting (with_names u.names (files_in vs)) u
 
-abbrev calls : Given → (line op : ℕ) → List Param → List Handed → ℕ → ThenArgs
+abbrev pub calls : Given → (line op : ℕ) → List Param → List Handed → ℕ → ThenArgs
 calls t line op ps args n vs u = unless (call_fault t u ps vs) line u (calling line op args vs n (noting_all vs u))
 
 call_grows : (x : ℕ) (t : Given) (line op : ℕ) (ps : List Param) (args : List Handed) → Grows x (do_call t line op ps args) (do_call t line op ps args)

@@ -1,10 +1,11 @@
 -- Two fuels: more fuel asks the same.
-use Rattle.std.specs.Prelude.{◌≡◌, ◌≢◌, ℕ, zero, suc, ◌≤◌, List, [], ◌∷◌, ◌++◌, slice_get, Option, Some, None, ◌⊎◌}
+use Rattle.std.specs.Prelude.{◌≡◌, ◌≢◌, ℕ, zero, suc, ◌≤◌, List, [], ◌∷◌, ◌++◌, Option, Some, None, ◌⊎◌}
 use Rattle.gs_talk.specs.declared.question.Question.{Question}
 use Rattle.gs_talk.specs.declared.question.Question.TheVariants.{FuelOut}
 use Rattle.gs_talk.specs.declared.question.Answer.{Answer}
 use Rattle.gs_talk.specs.Talk.{Given, State, Dialogue, Done, Ask, Stop, Asks, after, dialogue, talk}
 use Rattle.gs_talk.specs.Seq.{Run, World, Standing, Task, seq, reply, EndsIn, IsTask}
+use Rattle.gs_talk_laws.specs.Numbers.{at_number}
 
 abbrev pub IsPrefixOf : {A : Type 0} → List A → List A → Type 0
 IsPrefixOf {A} xs ys = (rest : List A) × (xs ++ rest ≡ ys)
@@ -70,15 +71,10 @@ TasksGoOn = (r : Run) (fuel more n : ℕ) (t : Task) → fuel ≤ more → IsTas
 abbrev pub SameTasks : Type 0
 SameTasks = (r : Run) (fuel more n : ℕ) (t u : Task) → IsTask (with_fuel r fuel) n t → IsTask (with_fuel r more) n u → t ≡ u
 
--- contents that the program closes are numbered from 1
-abbrev pub closed_at : List (List ℕ) → ℕ → Option (List ℕ)
-closed_at closed zero = None
-closed_at closed (suc k) = slice_get closed k
-
--- the n-th content that the program closes, at some moment
+-- the n-th content that the program closes, from 1, at some moment
 pub record IsClosed (r : Run) (n : ℕ) (bytes : List ℕ) : Type 0 where
   pub moment : ℕ
-  pub is : closed_at (seq r moment).world.closed n ≡ Some bytes
+  pub is : at_number (seq r moment).world.closed n ≡ Some bytes
 
 -- a content that is closed at two fuels is the same
 abbrev pub SameClosed : Type 0

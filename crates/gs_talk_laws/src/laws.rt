@@ -3,6 +3,7 @@
 ghost use Rattle.gs_talk_laws.specs.Fuels.{
     MoreFuel, FuelPrefix, SameStandings, TasksGoOn, SameTasks, SameClosed, SameEnd, OneEnd
 };
+ghost use Rattle.gs_talk_laws.specs.Uses.{UsesAreDue, CallsFit};
 
 /// More fuel asks the same.
 pub fn more_fuel()
@@ -22,4 +23,14 @@ pub fn two_fuels()
 pub fn same_end()
     ensures greater { SameEnd }
     ensures any { OneEnd }
+{}
+
+/// A use names a task that was called, at a place where it leaves a number or a string, once.
+pub fn uses_are_due()
+    ensures { UsesAreDue }
+{}
+
+/// What a call passes fits the operation's parameters.
+pub fn calls_fit()
+    ensures { CallsFit }
 {}
