@@ -228,7 +228,7 @@ standing w d = record { world = w; rest = d }
 stop_stays : (r : Run) (at : Standing) (q : Question) (s : State) (d : Dialogue) → d ≡ Stop q s → step_by r at d ≡ at
 stop_stays r at q s d e = rw e refl
 
-end_stays : (r : Run) (k : ℕ) (q : Question) → EndsIn r k q → step r (seq r k) ≡ seq r k
+pub end_stays : (r : Run) (k : ℕ) (q : Question) → EndsIn r k q → step r (seq r k) ≡ seq r k
 end_stays r k q h =
     let is = last_is (any_lost (seq r k).world) (seq r k).rest q h.last in
     stop_stays r (seq r k) q is.0 (seq r k).rest is.1

@@ -7,3 +7,4 @@ pub mod Fuels
 pub mod Dues
 pub mod Proper
 pub mod Programs
+pub mod Ends

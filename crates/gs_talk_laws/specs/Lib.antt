@@ -1,3 +1,4 @@
 pub mod Numbers
 pub mod Fuels
 pub mod Uses
+pub mod Ends

@@ -3,6 +3,7 @@
 ghost use Rattle.gs_talk_laws.specs.Fuels.{
     MoreFuel, FuelPrefix, SameStandings, TasksGoOn, SameTasks, SameClosed, SameEnd, OneEnd
 };
+ghost use Rattle.gs_talk_laws.specs.Ends.{EachRunEnds, EndsStay};
 ghost use Rattle.gs_talk_laws.specs.Uses.{UsesAreDue, CallsFit};
 
 /// More fuel asks the same.
@@ -33,4 +34,10 @@ pub fn uses_are_due()
 /// What a call passes fits the operation's parameters.
 pub fn calls_fit()
     ensures { CallsFit }
+{}
+
+/// Each run ends or is stuck, after as many answers as there may be actions, and stays so.
+pub fn each_run_ends()
+    ensures ends { EachRunEnds }
+    ensures stay { EndsStay }
 {}
