@@ -8,3 +8,4 @@ pub mod Dues
 pub mod Proper
 pub mod Programs
 pub mod Ends
+pub mod Outputs

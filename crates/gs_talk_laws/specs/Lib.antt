@@ -2,3 +2,4 @@ pub mod Numbers
 pub mod Fuels
 pub mod Uses
 pub mod Ends
+pub mod Versions
