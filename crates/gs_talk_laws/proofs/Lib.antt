@@ -9,3 +9,6 @@ pub mod Proper
 pub mod Programs
 pub mod Ends
 pub mod Outputs
+pub mod Versions
+pub mod Renaming
+pub mod Stays

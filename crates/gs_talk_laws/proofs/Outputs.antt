@@ -24,7 +24,7 @@ use Rattle.gs_talk_laws.specs.Versions.{Written, latest_from, written_by, left_b
 abbrev Holding : Type 0
 Holding = Version → Option Content
 
-if_same : {A B : Type 0} (f : A → B) (b : Bool) (x y : A) (u v : B) → u ≡ f x → v ≡ f y → (if b then u else v) ≡ f (if b then x else y)
+pub if_same : {A B : Type 0} (f : A → B) (b : Bool) (x y : A) (u v : B) → u ≡ f x → v ≡ f y → (if b then u else v) ≡ f (if b then x else y)
 if_same f true x y u v h k = h
 if_same f false x y u v h k = k
 

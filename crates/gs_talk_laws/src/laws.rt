@@ -5,6 +5,9 @@ ghost use Rattle.gs_talk_laws.specs.Fuels.{
 };
 ghost use Rattle.gs_talk_laws.specs.Ends.{EachRunEnds, EndsStay};
 ghost use Rattle.gs_talk_laws.specs.Uses.{UsesAreDue, CallsFit};
+ghost use Rattle.gs_talk_laws.specs.Versions.{
+    ClosedStay, FilesAreVersions, LatestIsStored, ReadingsStay, TasksReadVersions, TasksStay, WritingsAreStored
+};
 
 /// More fuel asks the same.
 pub fn more_fuel()
@@ -40,4 +43,25 @@ pub fn calls_fit()
 pub fn each_run_ends()
     ensures ends { EachRunEnds }
     ensures stay { EndsStay }
+{}
+
+/// Each file holds what its last version holds: its original, what a task left, or what the program
+/// closed.
+pub fn files_are_versions()
+    ensures files { FilesAreVersions }
+    ensures writings { WritingsAreStored }
+    ensures latest { LatestIsStored }
+{}
+
+/// Each task takes what the versions hold that it reads, which are older than itself, and gives what the
+/// law says.
+pub fn tasks_read_versions()
+    ensures { TasksReadVersions }
+{}
+
+/// What a run has called, closed and read at some moment stays.
+pub fn all_stays()
+    ensures tasks { TasksStay }
+    ensures closed { ClosedStay }
+    ensures readings { ReadingsStay }
 {}
