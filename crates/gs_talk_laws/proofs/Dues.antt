@@ -1,5 +1,5 @@
 -- The variables that wait name different places, that were not used.
-use Rattle.std.proofs.Common.{◌≡◌, ◌≢◌, ◌<◌, ◌≤◌, ◌+◌, ℕ, zero, suc, Bool, true, false, refl, sym, ap, ◌∙◌, subst, List, [], ◌∷◌, ◌++◌, set, length, Option, Some, None, arith, slice_get, ◌⊎◌, inl, inr, length-append}
+use Rattle.std.proofs.Common.{◌≡◌, ◌≢◌, ◌<◌, ◌≤◌, ◌+◌, ℕ, zero, suc, true, false, refl, sym, ap, ◌∙◌, subst, List, [], ◌∷◌, ◌++◌, set, length, Some, arith, slice_get, ◌⊎◌, inl, inr, length-append}
 use Rattle.gs_idl.specs.Interface.{Param, is_out_scalar}
 use Rattle.gs_types.specs.declared.value.Value.{Value}
 use Rattle.gs_talk.specs.declared.slot.Slot.{Slot}

@@ -1,5 +1,5 @@
 -- A program is never done without a last question.
-use Rattle.std.proofs.Common.{◌≡◌, ℕ, zero, suc, Bool, true, false, refl, List, [], ◌∷◌, Option, Some, None, if◌then◌else◌, nat_lt}
+use Rattle.std.proofs.Common.{ℕ, zero, suc, Bool, true, false, List, [], ◌∷◌, Option, Some, None, if◌then◌else◌, nat_lt}
 use Rattle.std.specs.Prelude.{is_some}
 use Rattle.std.specs.List.{list_any}
 use Rattle.std.specs.Bool.{⊤}
@@ -9,8 +9,8 @@ use Rattle.gs_talk.specs.declared.slot.Slot.{Slot}
 use Rattle.gs_talk.specs.declared.slot.Slot.TheVariants.{Held, Due}
 use Rattle.gs_talk.specs.declared.question.Question.TheVariants.{Use}
 use Rattle.gs_talk.specs.declared.question.Answer.{Answer}
-use Rattle.gs_talk.specs.Talk.{Given, State, Dialogue, Done, Ask, Stop, Meaning, then_do, step, fails, counted, taken, set_to, used, ended, run_first, run_all, settled, leaving, finish, start, dialogue}
-use Rattle.gs_talk.specs.Seq.{Run, Standing, seq, step as next_step, step_by, answered, reply}
+use Rattle.gs_talk.specs.Talk.{Given, State, Dialogue, Done, Ask, Stop, Meaning, then_do, step, fails, counted, taken, set_to, ended, run_first, run_all, settled, leaving, finish, start, dialogue}
+use Rattle.gs_talk.specs.Seq.{Run, Standing, seq, step_by, answered, reply}
 use Rattle.gs_talk_laws.proofs.Staying.{next_seq}
 
 abbrev pub NeverDone : Dialogue → Type 0

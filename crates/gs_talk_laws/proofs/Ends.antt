@@ -1,10 +1,10 @@
 -- Each run ends or is stuck.
-use Rattle.std.proofs.Common.{◌≡◌, ◌<◌, ◌≤◌, ◌+◌, ℕ, zero, suc, Bool, true, false, refl, sym, ap, ap₂, ◌∙◌, subst, Option, Some, None, is_none, arith, ◌⊎◌, inl, inr}
+use Rattle.std.proofs.Common.{◌≡◌, ◌<◌, ◌+◌, ℕ, zero, suc, Bool, true, false, refl, sym, ap, ap₂, ◌∙◌, subst, Option, Some, None, is_none, arith, ◌⊎◌, inl, inr}
 use Rattle.gs_types.specs.declared.limits.TheConstants.{ACTION_LIMIT}
 use Rattle.gs_talk.specs.declared.question.Question.{Question}
 use Rattle.gs_talk.specs.declared.question.Answer.{Answer}
 use Rattle.gs_talk.specs.Talk.{Dialogue, Done, Ask, Stop}
-use Rattle.gs_talk.specs.Seq.{Run, World, Standing, seq, step, step_by, answered, reply, any_lost, last_by, last_of, is_stuck_by, EndsIn, IsStuck}
+use Rattle.gs_talk.specs.Seq.{Run, Standing, seq, step, step_by, answered, reply, any_lost, last_by, last_of, is_stuck_by}
 use Rattle.gs_talk_laws.specs.Uses.{Told, with_answer, nothing_told}
 use Rattle.gs_talk_laws.specs.Ends.{HasEnded, EachRunEnds, EndsStay}
 use Rattle.gs_talk_laws.proofs.Staying.{next_seq, stays}

@@ -1,5 +1,5 @@
 -- With more steps a meaning goes the same way.
-use Rattle.std.proofs.Common.{◌≡◌, ◌<◌, ◌≤◌, ◌-◌, ◌+◌, ℕ, zero, suc, ℤ, Bool, true, false, refl, sym, ap, subst, List, [], ◌∷◌, Result, Ok, Err, Option, Some, None, arith, le_refl, if◌then◌else◌, nat_lt, slice_get, ◌⊎◌, inl, inr}
+use Rattle.std.proofs.Common.{◌≡◌, ◌≤◌, ◌+◌, ℕ, zero, suc, ℤ, Bool, true, false, refl, sym, ap, subst, List, [], ◌∷◌, Result, Ok, Err, Option, Some, None, arith, le_refl, if◌then◌else◌, nat_lt, slice_get, ◌⊎◌, inl, inr}
 use Rattle.gs_idl.specs.Interface.{Param}
 use Rattle.gs_types.specs.declared.limits.TheConstants.{ACTION_LIMIT}
 use Rattle.gs_types.specs.declared.value.Value.{Value}
@@ -13,7 +13,7 @@ use Rattle.gs_talk.specs.declared.question.Question.{Question}
 use Rattle.gs_talk.specs.declared.question.Question.TheVariants.{Use, FuelOut}
 use Rattle.gs_talk.specs.declared.question.Answer.{Answer}
 use Rattle.gs_talk.specs.Terms.{Placed, number, text, at, converted, compared, negated, inverted, both}
-use Rattle.gs_talk.specs.Values.{is_zero, fit, truth, apply, decided, atoi_of, order_of, int_of, text_of}
+use Rattle.gs_talk.specs.Values.{is_zero, truth, apply, decided, atoi_of, order_of, int_of, text_of}
 use Rattle.gs_talk.specs.Talk.{State, Dialogue, Done, Ask, Stop, Meaning, then_do, fails, unless, step, counted, action, taken, set_to, used, looked, fitted, or_else, valued, all_valued, Handed, by_value, into, arg_of, out_of, passed_valued}
 use Rattle.gs_talk_laws.specs.Fuels.{Cut}
 

@@ -1,15 +1,15 @@
 -- The sequential run at two fuels.
-use Rattle.std.proofs.Common.{◌≡◌, ◌≢◌, ◌<◌, ◌≤◌, ◌+◌, ◌-◌, ℕ, zero, suc, Bool, true, false, refl, sym, ap, ◌∙◌, subst, List, [], ◌∷◌, ◌++◌, Option, Some, None, ap₂, arith, ◌⊎◌, inl, inr, append-nil}
+use Rattle.std.proofs.Common.{◌≡◌, ◌≢◌, ◌<◌, ◌≤◌, ℕ, zero, suc, Bool, true, false, refl, sym, ap, ◌∙◌, subst, List, [], ◌∷◌, ◌++◌, Option, Some, None, ap₂, arith, ◌⊎◌, inl, inr, append-nil}
 use Rattle.std.proofs.lemmas.Bool.{cases_lt}
 use Rattle.gs_talk.specs.declared.question.Question.{Question}
-use Rattle.gs_talk.specs.declared.question.Question.TheVariants.{Call, Use, OpenFile, CloseFile, Barrier, End, Fault, FuelOut}
+use Rattle.gs_talk.specs.declared.question.Question.TheVariants.{FuelOut}
 use Rattle.gs_talk.specs.declared.question.Answer.{Answer}
 use Rattle.gs_talk.specs.Talk.{State, Dialogue, Done, Ask, Stop, Asks, dialogue, after}
-use Rattle.gs_talk.specs.Seq.{Run, World, Task, Standing, seq, start, step, step_by, answered, reply, world_after, any_lost, last_by, last_of, task_at, EndsIn, IsTask}
-use Rattle.gs_talk_laws.specs.Fuels.{IsPrefixOf, Cut, MoreFuel, with_fuel, answered_by, exchange, exchanges, FuelPrefix, HasRunOut, Alike, SameStandings, TasksGoOn, SameTasks, IsClosed, SameClosed, SameEnd, OneEnd}
+use Rattle.gs_talk.specs.Seq.{Run, World, Task, Standing, seq, step, step_by, answered, reply, world_after, any_lost, last_by, last_of, task_at, EndsIn, IsTask}
+use Rattle.gs_talk_laws.specs.Fuels.{IsPrefixOf, Cut, MoreFuel, with_fuel, exchange, exchanges, FuelPrefix, HasRunOut, Alike, SameStandings, TasksGoOn, SameTasks, IsClosed, SameClosed, SameEnd, OneEnd}
 use Rattle.gs_talk_laws.specs.Numbers.{at_number}
 use Rattle.gs_talk_laws.proofs.Lists.{get_longer, number_longer}
-use Rattle.gs_talk_laws.proofs.Staying.{Grown, seq_grown, next_seq, next_exchanges, seq_exchanged, stays}
+use Rattle.gs_talk_laws.proofs.Staying.{seq_grown, next_seq, next_exchanges, seq_exchanged, stays}
 use Rattle.gs_talk_laws.proofs.Statements.{dialogue_cut}
 use Rattle.gs_talk_laws.proofs.Ending.{NeverDone, seq_never}
 

@@ -1,5 +1,5 @@
 -- Prefixes and places of lists.
-use Rattle.std.proofs.Common.{◌≡◌, ◌<◌, ◌≤◌, ◌+◌, ℕ, zero, suc, refl, sym, ap, ◌∙◌, List, [], ◌∷◌, ◌++◌, length, Option, Some, None, slice_get, ◌⊎◌, inl, inr, append_assoc, append-nil, arith}
+use Rattle.std.proofs.Common.{◌≡◌, ◌<◌, ◌≤◌, ℕ, zero, suc, refl, sym, ap, ◌∙◌, List, [], ◌∷◌, ◌++◌, length, Some, slice_get, ◌⊎◌, inl, inr, append_assoc, append-nil, arith}
 use Rattle.gs_talk_laws.specs.Fuels.{IsPrefixOf}
 use Rattle.gs_talk_laws.specs.Numbers.{at_number}
 

@@ -1,11 +1,9 @@
 -- The files after a task are what it left at its places.
-use Rattle.std.proofs.Common.{◌≡◌, ◌≤◌, ◌+◌, ◌&&◌, ℕ, zero, suc, Bool, true, false, refl, sym, ap, ◌∙◌, subst, List, [], ◌∷◌, ◌++◌, length, Option, Some, None, arith, slice_get, if◌then◌else◌}
+use Rattle.std.proofs.Common.{◌≡◌, ◌+◌, ◌&&◌, ℕ, suc, Bool, true, false, refl, sym, ap, ◌∙◌, List, [], ◌∷◌, Option, Some, None, arith, slice_get, if◌then◌else◌}
 use Rattle.std.specs.Str.{bytes_eq}
-use Rattle.gs_idl.specs.Interface.{Param, is_input, is_output, is_file, reads_file, writes_file}
+use Rattle.gs_idl.specs.Interface.{Param, is_output, is_file, writes_file}
 use Rattle.gs_idl.specs.declared.idl.Dir.{Dir}
 use Rattle.gs_idl.specs.declared.idl.Dir.TheVariants.{Input, Both, Output}
-use Rattle.gs_idl.specs.declared.idl.ParamKind.{ParamKind}
-use Rattle.gs_idl.specs.declared.idl.ParamKind.TheVariants as kind
 use Rattle.gs_types.specs.declared.value.Value.{Value}
 use Rattle.gs_types.specs.declared.value.Value.TheVariants as value
 use Rattle.gs_types.specs.declared.job.Arg.{Arg}
@@ -15,7 +13,7 @@ use Rattle.gs_types.specs.declared.note.Version.TheVariants.{Out}
 use Rattle.gs_talk.specs.declared.question.CallArg.{CallArg}
 use Rattle.gs_talk.specs.declared.question.CallArg.TheVariants as arg
 use Rattle.gs_talk.specs.Seq.{Files, Content, Known, Lost, with_file, file_given, given, and_all, all_given, is_file as is_file_value, is_int, is_string, fits_first, fit, content_of, all_lost, set_first, rest_of, all_set, output_at}
-use Rattle.gs_talk_laws.specs.Uses.{kind_of, FitsParam, AreFit}
+use Rattle.gs_talk_laws.specs.Uses.{FitsParam, AreFit}
 use Rattle.gs_talk_laws.specs.Versions.{Written, latest_from, written_by, left_by}
 
 -- ---- a lost task

@@ -1,21 +1,20 @@
 -- A program asks for what is due.
-use Rattle.std.proofs.Common.{◌≡◌, ◌<◌, ◌+◌, ◌++◌, ℕ, zero, suc, Bool, true, false, not, refl, sym, ap, ◌∙◌, List, [], ◌∷◌, map, set, length, Result, Ok, Err, Option, Some, None, arith, slice_get, if◌then◌else◌, nat_le, subst}
+use Rattle.std.proofs.Common.{◌≡◌, ◌+◌, ◌++◌, ℕ, zero, suc, Bool, true, false, not, refl, ap, ◌∙◌, List, [], ◌∷◌, map, set, length, Result, Ok, Err, Option, Some, None, arith, slice_get, if◌then◌else◌, nat_le, subst}
 use Rattle.std.specs.List.{list_any}
 use Rattle.std.specs.Prelude.{is_some}
-use Rattle.gs_idl.specs.Interface.{Param, Signature, op_place, params_at}
+use Rattle.gs_idl.specs.Interface.{Signature, op_place, params_at}
 use Rattle.gs_tree.specs.declared.tree.Mode.{Mode}
 use Rattle.gs_tree.specs.declared.tree.Mode.TheVariants.{R, W, A}
 use Rattle.gs_tree.specs.declared.tree.VarKind.{VarKind}
 use Rattle.gs_tree.specs.declared.tree.VarKind.TheVariants as var_kind
 use Rattle.gs_tree.specs.Program.{Name, Setting, Passed, Code, empty, block, set as assign, choose, while, for, open_file, read_line, close_file, barrier, print, print_file, print_str, call, Codes, none, one, MaybeCodes, without, otherwise}
 use Rattle.gs_types.specs.declared.value.Value.{Value}
-use Rattle.gs_types.specs.declared.value.Value.TheVariants.{Int, Str}
+use Rattle.gs_types.specs.declared.value.Value.TheVariants.{Str}
 use Rattle.gs_types.specs.declared.limits.TheConstants.{FILE_LIMIT, STRING_LIMIT, PRINTED_LIMIT}
 use Rattle.gs_types.specs.declared.settings.FaultKind.{FaultKind}
 use Rattle.gs_types.specs.declared.settings.FaultKind.TheVariants.{StringTooLong, TextTooLong, FileTooLong, WrongMode}
 use Rattle.gs_talk.specs.declared.slot.Slot.{Slot}
 use Rattle.gs_talk.specs.declared.slot.Slot.TheVariants.{Held, Due}
-use Rattle.gs_talk.specs.declared.question.CallArg.{CallArg}
 use Rattle.gs_talk.specs.declared.question.Question.{Question}
 use Rattle.gs_talk.specs.declared.question.Question.TheVariants.{Call, Use, OpenFile, CloseFile, Barrier}
 use Rattle.gs_talk.specs.declared.question.Answer.{Answer}
@@ -23,8 +22,8 @@ use Rattle.gs_talk.specs.declared.question.Answer.TheVariants.{Went, Val, Bytes,
 use Rattle.gs_talk.specs.Terms.{Placed, placed, all_placed}
 use Rattle.gs_talk.specs.Values.{is_zero, int_of, text_of}
 use Rattle.gs_talk.specs.Texts.{formatted, Taken, no_more, got, read_line_at}
-use Rattle.gs_talk.specs.Talk.{Given, names_of, State, Opened, Dialogue, Done, Ask, Stop, Asks, Meaning, then_do, step, fails, unless, action, counted, set_to, taken, with_text, with_handle, appended, closed, read_to, fresh, valued, all_valued, passed_valued, do_set, printing, do_print, printing_str, do_print_str, opened_at, open_fault, with_name, noting, shows, absent, opened, asks_to_open, opening, do_open, closing_by, closing, do_close, writes, writing, do_print_file, line_taken, reading, do_read, do_barrier, Handed, all_handed, call_fault, files_in, with_names, calling, do_call, do_call_at, tested, branch, ended, turns, test_or_true, run_setting, run_maybe, variable, run, run_all, run_else, run_first, settled, leaving, finish, first_slot, start, dialogue, after, talk}
-use Rattle.gs_talk_laws.specs.Uses.{Told, with_answer, told_after, nothing_told, told, IsDue, UsesAreDue, AreFit, CallsFit}
+use Rattle.gs_talk.specs.Talk.{Given, names_of, State, Opened, Dialogue, Done, Ask, Stop, Asks, Meaning, then_do, step, fails, action, counted, set_to, with_text, with_handle, appended, closed, read_to, valued, all_valued, passed_valued, do_set, printing, do_print, printing_str, do_print_str, opened_at, open_fault, absent, opened, asks_to_open, opening, do_open, closing_by, closing, do_close, writes, writing, do_print_file, line_taken, reading, do_read, do_barrier, Handed, all_handed, call_fault, calling, do_call, do_call_at, tested, branch, ended, turns, test_or_true, run_setting, run_maybe, variable, run, run_all, run_else, run_first, settled, leaving, finish, first_slot, start, dialogue, after}
+use Rattle.gs_talk_laws.specs.Uses.{Told, with_answer, told_after, nothing_told, UsesAreDue, CallsFit}
 use Rattle.gs_talk_laws.proofs.Fuel.{Then, ThenAll}
 use Rattle.gs_talk_laws.proofs.Statements.{noting_one, opens, noting_all, calls}
 use Rattle.gs_talk_laws.proofs.Proper.{Right, Well, Proper, Keeps, KeepsThen, then_proper, step_proper, if_proper, unless_proper, well_set, well_counted, ask_proper, used_proper, valued_proper, all_proper, AreHanded, all_are_handed, passed_proper, calling_proper}

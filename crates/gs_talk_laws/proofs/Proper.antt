@@ -1,5 +1,5 @@
 -- Values and statements ask for what is due.
-use Rattle.std.proofs.Common.{◌≡◌, ◌<◌, ◌≤◌, ◌+◌, ◌&&◌, ℕ, zero, suc, ℤ, pos, ◌-ℤ◌, Bool, true, false, not, refl, sym, ap, ◌∙◌, List, [], ◌∷◌, set, length, Result, Ok, Err, Option, Some, None, arith, slice_get, if◌then◌else◌, nat_lt, ltb-true, length-append}
+use Rattle.std.proofs.Common.{◌≡◌, ◌<◌, ◌+◌, ◌&&◌, ℕ, zero, suc, ℤ, pos, ◌-ℤ◌, Bool, true, false, not, refl, sym, ◌∙◌, List, [], ◌∷◌, length, Result, Ok, Err, Option, Some, None, arith, slice_get, if◌then◌else◌, nat_lt, ltb-true, length-append}
 use Rattle.std.specs.Bool.{⊤}
 use Rattle.gs_idl.specs.Interface.{Param, Signature, params_at, is_out, is_file, is_out_scalar}
 use Rattle.gs_idl.specs.declared.idl.ParamKind.{ParamKind}

@@ -1,7 +1,7 @@
 -- Each file holds what its last version holds, and each task takes what the versions hold that it reads.
-use Rattle.std.proofs.Common.{◌≡◌, ◌<◌, ◌≤◌, ◌+◌, ◌&&◌, ℕ, zero, suc, Bool, true, false, refl, sym, ap, ap₂, ◌∙◌, subst, List, [], ◌∷◌, ◌++◌, length, length-append, append-nil, Option, Some, None, arith, slice_get, ◌⊎◌, inl, inr, if◌then◌else◌}
+use Rattle.std.proofs.Common.{◌≡◌, ◌+◌, ℕ, zero, suc, Bool, true, false, refl, sym, ap, ap₂, ◌∙◌, subst, List, [], ◌∷◌, ◌++◌, length, length-append, append-nil, Option, Some, None, arith, slice_get, inl, inr, if◌then◌else◌}
 use Rattle.std.specs.Str.{bytes_eq}
-use Rattle.gs_idl.specs.Interface.{Param, Signature, name_at, params_at, is_input, is_file, reads_file}
+use Rattle.gs_idl.specs.Interface.{Param, name_at, params_at, is_input, is_file, reads_file}
 use Rattle.gs_idl.specs.declared.idl.Dir.{Dir}
 use Rattle.gs_idl.specs.declared.idl.Dir.TheVariants.{Input, Both, Output}
 use Rattle.gs_types.specs.Job.{Meaning, inputs}
@@ -15,16 +15,16 @@ use Rattle.gs_talk.specs.declared.question.Question.{Question}
 use Rattle.gs_talk.specs.declared.question.Question.TheVariants.{Call, Use, OpenFile, CloseFile, Barrier, End, Fault, FuelOut}
 use Rattle.gs_talk.specs.declared.question.Answer.{Answer}
 use Rattle.gs_talk.specs.Talk.{Dialogue, Done, Ask, Stop}
-use Rattle.gs_talk.specs.Seq.{Run, World, Files, Content, Known, Lost, Task, Standing, seq, step, step_by, answered, reply, went_unless, val_of, opened, unless_lost, any_lost, world_after, after_call, first_refused, task_of, ran, with_file, file_given, given, and_all, all_given, gives, fitting, fit, files_by, output_at, output_by, output_of, task_at}
+use Rattle.gs_talk.specs.Seq.{Run, World, Files, Content, Known, Lost, Task, Standing, seq, step_by, answered, reply, went_unless, world_after, after_call, first_refused, task_of, ran, with_file, file_given, given, and_all, all_given, gives, fitting, fit, files_by, output_at, output_by, output_of, task_at}
 use Rattle.gs_talk_laws.specs.Numbers.{at_number}
 use Rattle.gs_talk_laws.specs.Uses.{Told, with_answer, nothing_told, FitsParam, AreFit}
-use Rattle.gs_talk_laws.specs.Versions.{Written, latest_from, latest, written_by, if_goes, written_in, written_next, writings, left_by, closed_as, version_value, IsStored, IsVersionOf, read_at, read_by, read_in, read_next, readings, content_by, all_given_by, IsBefore, IsRead, IsTaskOf}
+use Rattle.gs_talk_laws.specs.Versions.{Written, latest_from, latest, written_by, if_goes, written_in, written_next, writings, left_by, closed_as, version_value, IsStored, IsVersionOf, read_at, read_by, read_in, read_next, readings, content_by, all_given_by, IsRead, IsTaskOf}
 use Rattle.gs_talk_laws.proofs.Lists.{prefix_same, number_longer, get_either, get_last}
 use Rattle.gs_talk_laws.proofs.Staying.{Grown, next_seq}
 use Rattle.gs_talk_laws.proofs.Outputs.{Left, lost_files, set_files, and_true, file_kind, if_same}
 use Rattle.gs_talk_laws.proofs.Proper.{Right, Proper}
 use Rattle.gs_talk_laws.proofs.Programs.{dialogue_proper}
-use Rattle.gs_talk_laws.proofs.Versions.{task_longer, version_later, value_later, latest-append, AllStored, all_later, all-append, latest_stored, written_stored, all_of, task_later, version_before}
+use Rattle.gs_talk_laws.proofs.Versions.{version_later, value_later, latest-append, AllStored, all_later, all-append, latest_stored, written_stored, all_of, task_later, version_before}
 
 abbrev pub Readings : Type 0
 Readings = List (List (Option Version))
@@ -172,10 +172,10 @@ tasks_called r w v rs t reads g count old new zero u e = absurd (cc)
 tasks_called r w v rs t reads g count old new (suc i) u e = elim (get_either w.tasks t i u e) [
   | inl before ↦ (let o = old (suc i) u before in (o.0, number_longer rs (rs ++ reads ∷ []) (suc i) o.0 (reads ∷ [], refl) o.1, task_later r w v g (suc i) u o.0 o.2))
   | inr now ↦ (
-    let at : i ≡ length rs = now.0 ∙ sym count in
-    let n : length w.tasks + 1 ≡ suc i = (let e = now.0 in omega arith) in
-    (reads, ap (λ j. slice_get (rs ++ reads ∷ []) j) at ∙ get_last rs reads, subst (λ (m : ℕ). IsTaskOf r v m u reads) n (subst (λ (x : Task). IsTaskOf r v (length w.tasks + 1) x reads) now.1 new))
-  )
+      let at : i ≡ length rs = now.0 ∙ sym count in
+      let n : length w.tasks + 1 ≡ suc i = (let e = now.0 in omega arith) in
+      (reads, ap (λ j. slice_get (rs ++ reads ∷ []) j) at ∙ get_last rs reads, subst (λ (m : ℕ). IsTaskOf r v m u reads) n (subst (λ (x : Task). IsTaskOf r v (length w.tasks + 1) x reads) now.1 new))
+      )
 ]
 
 one_longer : {A B : Type 0} (xs : List A) (ys : List B) (x : A) (y : B) → length xs ≡ length ys → length (xs ++ x ∷ []) ≡ length (ys ++ y ∷ [])

@@ -1,5 +1,5 @@
 -- With more steps a program asks the same.
-use Rattle.std.proofs.Common.{◌≡◌, ◌<◌, ◌≤◌, ◌-◌, ◌+◌, ◌++◌, ℕ, zero, suc, Bool, true, false, not, refl, subst, List, [], ◌∷◌, length, Result, Ok, Err, Option, Some, None, arith, le_refl, if◌then◌else◌, nat_le, slice_get, inl, inr}
+use Rattle.std.proofs.Common.{◌≡◌, ◌<◌, ◌≤◌, ◌-◌, ◌+◌, ◌++◌, ℕ, zero, suc, Bool, true, false, not, refl, subst, List, [], ◌∷◌, length, Result, Ok, Err, Option, Some, None, arith, le_refl, if◌then◌else◌, nat_le, inl, inr}
 use Rattle.std.specs.List.{list_any}
 use Rattle.std.specs.Prelude.{is_some}
 use Rattle.gs_idl.specs.Interface.{Param, op_place, params_at}
@@ -7,23 +7,22 @@ use Rattle.gs_tree.specs.declared.tree.Mode.{Mode}
 use Rattle.gs_tree.specs.declared.tree.Mode.TheVariants.{R, W, A}
 use Rattle.gs_tree.specs.Program.{Setting, Passed, Code, empty, block, set as assign, choose, while, for, open_file, read_line, close_file, barrier, print, print_file, print_str, call, Codes, none, one, MaybeCodes, without, otherwise}
 use Rattle.gs_types.specs.declared.value.Value.{Value}
-use Rattle.gs_types.specs.declared.value.Value.TheVariants.{Int, Str}
+use Rattle.gs_types.specs.declared.value.Value.TheVariants.{Str}
 use Rattle.gs_types.specs.declared.limits.TheConstants.{FILE_LIMIT, STRING_LIMIT, PRINTED_LIMIT}
 use Rattle.gs_types.specs.declared.settings.FaultKind.{FaultKind}
 use Rattle.gs_types.specs.declared.settings.FaultKind.TheVariants.{StringTooLong, TextTooLong, FileTooLong, WrongMode}
 use Rattle.gs_talk.specs.declared.slot.Slot.{Slot}
 use Rattle.gs_talk.specs.declared.slot.Slot.TheVariants.{Held, Due}
 use Rattle.gs_talk.specs.declared.question.CallArg.{CallArg}
-use Rattle.gs_talk.specs.declared.question.Question.{Question}
 use Rattle.gs_talk.specs.declared.question.Question.TheVariants.{Call, OpenFile, CloseFile, Barrier}
 use Rattle.gs_talk.specs.declared.question.Answer.{Answer}
 use Rattle.gs_talk.specs.declared.question.Answer.TheVariants.{Went, Val, Bytes, Absent, TooLong}
 use Rattle.gs_talk.specs.Terms.{Placed, placed, all_placed}
 use Rattle.gs_talk.specs.Values.{is_zero, int_of, text_of}
 use Rattle.gs_talk.specs.Texts.{formatted, Taken, no_more, got, read_line_at}
-use Rattle.gs_talk.specs.Talk.{Given, names_of, State, Opened, Dialogue, Done, Ask, Stop, Meaning, then_do, step, fails, unless, action, counted, set_to, with_text, with_handle, appended, closed, numbered, valued, all_valued, passed_valued, do_set, printing, do_print, printing_str, do_print_str, opened_at, open_fault, with_name, noting, shows, absent, opened, asks_to_open, opening, do_open, closing_by, closing, do_close, writes, writing, do_print_file, line_taken, reading, do_read, do_barrier, Handed, all_handed, call_fault, files_in, with_names, went, calling, do_call, do_call_at, tested, branch, ended, turns, test_or_true, run_setting, run_maybe, variable, run, run_all, run_else, run_first, settled, leaving, finish, start, dialogue}
+use Rattle.gs_talk.specs.Talk.{Given, names_of, State, Opened, Done, Ask, Meaning, then_do, step, fails, unless, action, set_to, with_text, with_handle, appended, closed, numbered, valued, all_valued, passed_valued, do_set, printing, do_print, printing_str, do_print_str, opened_at, open_fault, with_name, noting, absent, opened, asks_to_open, opening, do_open, closing_by, closing, do_close, writes, writing, do_print_file, line_taken, reading, do_read, do_barrier, Handed, all_handed, call_fault, files_in, with_names, went, calling, do_call, do_call_at, tested, branch, ended, turns, test_or_true, run_setting, run_maybe, variable, run, run_all, run_else, run_first, settled, leaving, finish, start, dialogue}
 use Rattle.gs_talk_laws.specs.Fuels.{Cut}
-use Rattle.gs_talk_laws.proofs.Fuel.{Then, ThenAll, ThenArgs, Extends, extends_cut, extends_then, extends_wider, Grows, step_grows, done_grows, if_extends, unless_extends, ask_extends, done_or_fails, fails_or, used_extends, valued_extends, all_extends, passed_extends}
+use Rattle.gs_talk_laws.proofs.Fuel.{Then, ThenAll, ThenArgs, Extends, extends_cut, extends_then, extends_wider, Grows, step_grows, done_grows, unless_extends, ask_extends, done_or_fails, fails_or, used_extends, valued_extends, all_extends, passed_extends}
 
 value_grows : (x line : ℕ) (t : Placed) (go go' : ℕ → Then) → ((n : ℕ) (v : Value) (u : State) → Extends x n (go n v u) (go' (n + x) v u)) → Grows x (step (λ n s. valued line t s (go n))) (step (λ n s. valued line t s (go' n)))
 value_grows x line t go go' h = step_grows x (λ n s. valued line t s (go n)) (λ n s. valued line t s (go' n)) (λ n s. valued_extends t x n line s (go n) (go' (n + x)) (h n))

@@ -1,5 +1,5 @@
 -- The tasks, the closed contents and the exchanges of a run stay.
-use Rattle.std.proofs.Common.{◌≡◌, ◌≤◌, ◌+◌, ◌-◌, ℕ, zero, suc, Bool, true, false, refl, sym, ap, ◌∙◌, subst, List, [], ◌∷◌, ◌++◌, Option, Some, None, arith}
+use Rattle.std.proofs.Common.{◌≡◌, ◌≤◌, ◌+◌, ◌-◌, ℕ, zero, suc, refl, ap, ◌∙◌, subst, List, [], ◌∷◌, ◌++◌, Option, Some, None, arith}
 use Rattle.gs_talk.specs.declared.question.CallArg.{CallArg}
 use Rattle.gs_talk.specs.declared.question.Question.{Question}
 use Rattle.gs_talk.specs.declared.question.Question.TheVariants.{Call, Use, OpenFile, CloseFile, Barrier, End, Fault, FuelOut}
@@ -7,7 +7,7 @@ use Rattle.gs_talk.specs.declared.question.Answer.{Answer}
 use Rattle.gs_idl.specs.Interface.{Signature, params_at}
 use Rattle.gs_types.specs.Job.{Meaning}
 use Rattle.gs_talk.specs.Talk.{Dialogue, Done, Ask, Stop}
-use Rattle.gs_talk.specs.Seq.{Run, World, Task, Standing, seq, step, step_by, answered, reply, world_after, after_call, first_refused, task_of, ran}
+use Rattle.gs_talk.specs.Seq.{Run, World, Standing, seq, step, step_by, answered, reply, world_after, after_call, first_refused, task_of}
 use Rattle.gs_talk_laws.specs.Fuels.{IsPrefixOf, exchange, exchanges}
 use Rattle.gs_talk_laws.proofs.Lists.{prefix_same, prefix_then}
 
@@ -48,7 +48,6 @@ step_grown r at (Ask q s next) = of_reply (reply r.texts.ops at.world q)
 pub next_seq : (r : Run) (k : ℕ) → seq r (suc k) ≡ step r (seq r k)
 unfolding seq
 next_seq r k = refl
-
 
 pub next_exchanges : (r : Run) (k : ℕ) → exchanges r (suc k) ≡ exchanges r k ++ exchange r (seq r k).world (seq r k).rest
 unfolding exchanges

@@ -1,12 +1,12 @@
 -- What holds of the versions at each moment, and what stays.
-use Rattle.std.proofs.Common.{◌≡◌, ◌≤◌, ◌+◌, ◌-◌, ℕ, zero, suc, refl, ap, subst, List, ◌++◌, Option, arith}
-use Rattle.gs_talk.specs.Seq.{Run, Task, seq, task_at}
+use Rattle.std.proofs.Common.{◌≡◌, ◌+◌, ◌-◌, ℕ, zero, suc, refl, subst, ◌++◌, arith}
+use Rattle.gs_talk.specs.Seq.{Run, seq}
 use Rattle.gs_talk_laws.specs.Fuels.{IsPrefixOf}
 use Rattle.gs_talk_laws.specs.Versions.{writings, readings, read_next, FilesAreVersions, WritingsAreStored, LatestIsStored, TasksReadVersions, TasksStay, ClosedStay, ReadingsStay}
 use Rattle.gs_talk_laws.proofs.Lists.{prefix_same, prefix_then, number_longer}
 use Rattle.gs_talk_laws.proofs.Staying.{seq_grown}
 use Rattle.gs_talk_laws.proofs.Versions.{task_longer}
-use Rattle.gs_talk_laws.proofs.Renaming.{Readings, known, always_sound, next_readings}
+use Rattle.gs_talk_laws.proofs.Renaming.{known, always_sound, next_readings}
 
 pub files_are_versions : FilesAreVersions
 files_are_versions r k name = (always_sound r k).files name

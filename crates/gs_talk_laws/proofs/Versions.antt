@@ -1,5 +1,5 @@
 -- Versions in a world that grows.
-use Rattle.std.proofs.Common.{◌≡◌, ◌<◌, ◌≤◌, ◌+◌, ◌&&◌, ℕ, zero, suc, Bool, true, false, refl, sym, ap, ap₂, ◌∙◌, subst, List, [], ◌∷◌, ◌++◌, length, Option, Some, None, arith, slice_get, ◌⊎◌, inl, inr, if◌then◌else◌}
+use Rattle.std.proofs.Common.{◌≡◌, ◌<◌, ◌≤◌, ◌+◌, ℕ, zero, suc, Bool, true, false, refl, sym, ap, ap₂, ◌∙◌, subst, List, [], ◌∷◌, ◌++◌, length, Option, Some, None, arith, slice_get, inl, inr, if◌then◌else◌}
 use Rattle.std.specs.Str.{bytes_eq}
 use Rattle.std.proofs.lemmas.Slice.Eq.{bytes_eq-Decides}
 use Rattle.gs_idl.specs.Interface.{Param, writes_file}
@@ -7,10 +7,10 @@ use Rattle.gs_types.specs.declared.note.Version.{Version}
 use Rattle.gs_types.specs.declared.note.Version.TheVariants.{Original, Out, Main}
 use Rattle.gs_talk.specs.declared.question.CallArg.{CallArg}
 use Rattle.gs_talk.specs.declared.question.CallArg.TheVariants as arg
-use Rattle.gs_talk.specs.Seq.{Run, World, Files, Content, Task, given, and_all, output_of, task_at}
+use Rattle.gs_talk.specs.Seq.{Run, World, Files, Task, given, and_all, output_of, task_at}
 use Rattle.gs_talk_laws.specs.Fuels.{IsPrefixOf}
 use Rattle.gs_talk_laws.specs.Numbers.{at_number}
-use Rattle.gs_talk_laws.specs.Versions.{Written, latest_from, latest, written_at, written_by, left_by, closed_as, version_value, IsLeft, IsStored, IsVersionOf, content_by, all_given_by, IsBefore, IsRead, IsTaskOf}
+use Rattle.gs_talk_laws.specs.Versions.{Written, latest_from, written_at, written_by, left_by, closed_as, version_value, IsStored, IsVersionOf, content_by, all_given_by, IsBefore, IsTaskOf}
 use Rattle.gs_talk_laws.proofs.Lists.{get_longer, get_within, number_longer}
 use Rattle.gs_talk_laws.proofs.Staying.{Grown}
 

@@ -3,7 +3,7 @@ use Rattle.std.specs.Prelude.{◌≡◌, ◌≢◌, ℕ, zero, suc, ◌≤◌, L
 use Rattle.gs_talk.specs.declared.question.Question.{Question}
 use Rattle.gs_talk.specs.declared.question.Question.TheVariants.{FuelOut}
 use Rattle.gs_talk.specs.declared.question.Answer.{Answer}
-use Rattle.gs_talk.specs.Talk.{Given, State, Dialogue, Done, Ask, Stop, Asks, after, dialogue, talk}
+use Rattle.gs_talk.specs.Talk.{Given, State, Dialogue, Done, Ask, Stop, Asks, after, talk}
 use Rattle.gs_talk.specs.Seq.{Run, World, Standing, Task, seq, reply, EndsIn, IsTask}
 use Rattle.gs_talk_laws.specs.Numbers.{at_number}
 

@@ -1,12 +1,25 @@
 //! Laws, as contracts of functions that do nothing.
 
 ghost use Rattle.gs_talk_laws.specs.Fuels.{
-    MoreFuel, FuelPrefix, SameStandings, TasksGoOn, SameTasks, SameClosed, SameEnd, OneEnd
+  MoreFuel,
+  FuelPrefix,
+  SameStandings,
+  TasksGoOn,
+  SameTasks,
+  SameClosed,
+  SameEnd,
+  OneEnd,
 };
 ghost use Rattle.gs_talk_laws.specs.Ends.{EachRunEnds, EndsStay};
 ghost use Rattle.gs_talk_laws.specs.Uses.{UsesAreDue, CallsFit};
 ghost use Rattle.gs_talk_laws.specs.Versions.{
-    ClosedStay, FilesAreVersions, LatestIsStored, ReadingsStay, TasksReadVersions, TasksStay, WritingsAreStored
+  ClosedStay,
+  FilesAreVersions,
+  LatestIsStored,
+  ReadingsStay,
+  TasksReadVersions,
+  TasksStay,
+  WritingsAreStored,
 };
 
 /// More fuel asks the same.
