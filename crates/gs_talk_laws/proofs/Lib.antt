@@ -12,3 +12,5 @@ pub mod Outputs
 pub mod Versions
 pub mod Renaming
 pub mod Stays
+pub mod Places
+pub mod Stuck

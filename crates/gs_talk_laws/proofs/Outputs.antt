@@ -51,14 +51,14 @@ lost_files val n x lost (p ∷ ps) (arg.File name ∷ args) place files v e =
 -- ---- what a place gives
 
 -- an output is taken from the place
-abbrev takes : Arg → Bool
+abbrev pub takes : Arg → Bool
 takes (Given v) = false
 takes (both_ways bytes) = true
 takes OutFile = true
 takes OutInt = true
 takes OutStr = true
 
-file_takes : (d : Dir) (c : Option Content) (x : Arg) → file_given d c ≡ Some x → takes x ≡ is_output d
+pub file_takes : (d : Dir) (c : Option Content) (x : Arg) → file_given d c ≡ Some x → takes x ≡ is_output d
 file_takes Input None x e = absurd (cc)
 file_takes Input (Some (Known bytes)) x e = let is : Given (value.File bytes) ≡ x = cc in ap takes (sym is)
 file_takes Input (Some Lost) x e = absurd (cc)
@@ -75,53 +75,61 @@ and_true false c e = refl
 pub file_kind : (p : Param) (name : List ℕ) → FitsParam p (arg.File name) → is_file p.kind ≡ true
 file_kind p name h = ap is_file (sym h.kind)
 
-file_writes : (p : Param) (name : List ℕ) (c : Option Content) (x : Arg) → FitsParam p (arg.File name) → file_given p.dir c ≡ Some x → takes x ≡ writes_file p
+pub file_writes : (p : Param) (name : List ℕ) (c : Option Content) (x : Arg) → FitsParam p (arg.File name) → file_given p.dir c ≡ Some x → takes x ≡ writes_file p
 file_writes p name c x h e = file_takes p.dir c x e ∙ sym (and_true (is_output p.dir) (is_file p.kind) (file_kind p name h))
 
-first_fits : (test : Value → Bool) (outs : List Value) (rest : List Value → Bool) → fits_first test outs rest ≡ true → (v : Value) × (vs : List Value) × (outs ≡ v ∷ vs) × (rest vs ≡ true)
-first_fits test [] rest e = absurd (cc)
-first_fits test (v ∷ outs) rest e = (v, outs, refl, of_test (test v) e)
-  where
-    of_test : (b : Bool) → (b && rest outs) ≡ true → rest outs ≡ true
-    of_test true e = e
-    of_test false e = absurd (cc)
+-- the kind of what is taken from the place
+abbrev pub is_of_kind : Arg → Value → Bool
+is_of_kind (Given x) v = false
+is_of_kind (both_ways bytes) v = is_file_value v
+is_of_kind OutFile v = is_file_value v
+is_of_kind OutInt v = is_int v
+is_of_kind OutStr v = is_string v
 
-fit_taken : (x : Arg) (xs : List Arg) (outs : List Value) → takes x ≡ true → fit (x ∷ xs) outs ≡ true → (v : Value) × (vs : List Value) × (outs ≡ v ∷ vs) × (fit xs vs ≡ true)
+both_true : (b c : Bool) → (b && c) ≡ true → (b ≡ true) × (c ≡ true)
+both_true true c e = (refl, e)
+both_true false c e = absurd (cc)
+
+first_fits : (test : Value → Bool) (outs : List Value) (rest : List Value → Bool) → fits_first test outs rest ≡ true → (v : Value) × (vs : List Value) × (outs ≡ v ∷ vs) × (rest vs ≡ true) × (test v ≡ true)
+first_fits test [] rest e = absurd (cc)
+first_fits test (v ∷ outs) rest e = let is = both_true (test v) (rest outs) e in (v, outs, refl, is.1, is.0)
+
+pub fit_taken : (x : Arg) (xs : List Arg) (outs : List Value) → takes x ≡ true → fit (x ∷ xs) outs ≡ true → (v : Value) × (vs : List Value) × (outs ≡ v ∷ vs) × (fit xs vs ≡ true) × (is_of_kind x v ≡ true)
 fit_taken (Given v) xs outs t e = absurd (cc)
 fit_taken (both_ways bytes) xs outs t e = first_fits is_file_value outs (fit xs) e
 fit_taken OutFile xs outs t e = first_fits is_file_value outs (fit xs) e
 fit_taken OutInt xs outs t e = first_fits is_int outs (fit xs) e
 fit_taken OutStr xs outs t e = first_fits is_string outs (fit xs) e
 
-fit_given : (x : Arg) (xs : List Arg) (outs : List Value) → takes x ≡ false → fit (x ∷ xs) outs ≡ true → fit xs outs ≡ true
+pub fit_given : (x : Arg) (xs : List Arg) (outs : List Value) → takes x ≡ false → fit (x ∷ xs) outs ≡ true → fit xs outs ≡ true
 fit_given (Given v) xs outs t e = e
 fit_given (both_ways bytes) xs outs t e = absurd (cc)
 fit_given OutFile xs outs t e = absurd (cc)
 fit_given OutInt xs outs t e = absurd (cc)
 fit_given OutStr xs outs t e = absurd (cc)
 
-taken_here : (x : Arg) (xs : List Arg) (outs : List Value) → takes x ≡ true → output_at (x ∷ xs) outs 1 ≡ slice_get outs 0
+pub taken_here : (x : Arg) (xs : List Arg) (outs : List Value) → takes x ≡ true → output_at (x ∷ xs) outs 1 ≡ slice_get outs 0
 taken_here (Given v) xs outs t = absurd (cc)
 taken_here (both_ways bytes) xs outs t = refl
 taken_here OutFile xs outs t = refl
 taken_here OutInt xs outs t = refl
 taken_here OutStr xs outs t = refl
 
-taken_after : (x : Arg) (xs : List Arg) (outs : List Value) (j : ℕ) → takes x ≡ true → output_at (x ∷ xs) outs (suc (suc j)) ≡ output_at xs (rest_of outs) (suc j)
+pub taken_after : (x : Arg) (xs : List Arg) (outs : List Value) (j : ℕ) → takes x ≡ true → output_at (x ∷ xs) outs (suc (suc j)) ≡ output_at xs (rest_of outs) (suc j)
 taken_after (Given v) xs outs j t = absurd (cc)
 taken_after (both_ways bytes) xs outs j t = refl
 taken_after OutFile xs outs j t = refl
 taken_after OutInt xs outs j t = refl
 taken_after OutStr xs outs j t = refl
 
-given_after : (x : Arg) (xs : List Arg) (outs : List Value) (j : ℕ) → takes x ≡ false → output_at (x ∷ xs) outs (suc (suc j)) ≡ output_at xs outs (suc j)
+pub given_after : (x : Arg) (xs : List Arg) (outs : List Value) (j : ℕ) → takes x ≡ false → output_at (x ∷ xs) outs (suc (suc j)) ≡ output_at xs outs (suc j)
 given_after (Given v) xs outs j t = refl
 given_after (both_ways bytes) xs outs j t = absurd (cc)
 given_after OutFile xs outs j t = absurd (cc)
 given_after OutInt xs outs j t = absurd (cc)
 given_after OutStr xs outs j t = absurd (cc)
 
-both_given : {A : Type 0} (o : Option A) (os : Option (List A)) (xs : List A) → and_all o os ≡ Some xs → (y : A) × (ys : List A) × (o ≡ Some y) × (os ≡ Some ys) × (y ∷ ys ≡ xs)
+pub both_given : {A : Type 0} (o : Option A) (os : Option (List A)) (xs : List A) → and_all o os ≡ Some xs → (y : A) × (ys : List A) × (o ≡ Some y) × (os ≡ Some ys) × (y ∷ ys ≡ xs)
 both_given None os xs e = absurd (cc)
 both_given (Some y) None xs e = absurd (cc)
 both_given (Some y) (Some ys) xs e = (y, ys, refl, refl, cc)
@@ -205,7 +213,7 @@ scalar_set val x out first i p ps a args more outs files v e h taken again =
     let t = h.taken taken in
     rw t.2 (again h.others t.1 files v t.4 e)
 
-arg_takes : (x y : Arg) (b : Bool) → Some x ≡ Some y → takes x ≡ b → takes y ≡ b
+pub arg_takes : (x y : Arg) (b : Bool) → Some x ≡ Some y → takes x ≡ b → takes y ≡ b
 arg_takes x y b e h = let is : x ≡ y = cc in ap takes (sym is) ∙ h
 
 pub set_files : (val : Holding) (n : ℕ) (x : List ℕ) (out : ℕ → Option Value) → ((place : ℕ) → left_by (out place) ≡ val (Out n place)) →

@@ -26,7 +26,7 @@ use Rattle.gs_talk.specs.Talk.{Given, names_of, State, Opened, Dialogue, Done, A
 use Rattle.gs_talk_laws.specs.Uses.{Told, with_answer, told_after, nothing_told, UsesAreDue, CallsFit}
 use Rattle.gs_talk_laws.proofs.Fuel.{Then, ThenAll}
 use Rattle.gs_talk_laws.proofs.Statements.{noting_one, opens, noting_all, calls}
-use Rattle.gs_talk_laws.proofs.Proper.{Right, Well, Proper, Keeps, KeepsThen, then_proper, step_proper, if_proper, unless_proper, well_set, well_counted, ask_proper, used_proper, valued_proper, all_proper, AreHanded, all_are_handed, passed_proper, calling_proper}
+use Rattle.gs_talk_laws.proofs.Proper.{IsLast, Right, Well, Proper, Keeps, KeepsThen, then_proper, step_proper, if_proper, unless_proper, well_set, well_counted, ask_proper, used_proper, valued_proper, all_proper, AreHanded, all_are_handed, passed_proper, calling_proper}
 
 abbrev KeepsAll : List Signature → ThenAll → Type 0
 KeepsAll ops go = (h : Told) (vs : List Value) (s : State) → Well h s → Proper ops h (go vs s)
@@ -247,14 +247,14 @@ dialogue_proper t fuel =
 
 -- ---- after some answers
 
-asks_right : (ops : List Signature) (answers : List Answer) (d : Dialogue) (h : Told) (q : Question) (s : State) → Proper ops h d → after d answers ≡ Asks q s → Right ops (told_after h d answers) q
-asks_right ops answers (Done m u) h q s p e = absurd (cc)
-asks_right ops answers (Stop r u) h q s p e = let is : r ≡ q = cc in subst (Right ops h) is p
-asks_right ops [] (Ask r u next) h q s p e = let is : r ≡ q = cc in subst (Right ops h) is p.1
-asks_right ops (a ∷ answers) (Ask r u next) h q s p e = asks_right ops answers (next a) (with_answer r a h) q s (p.2 a) e
+asks_right : (ops : List Signature) (answers : List Answer) (d : Dialogue) (h : Told) (q : Question) (s : State) → (IsLast q → ⊥) → Proper ops h d → after d answers ≡ Asks q s → Right ops (told_after h d answers) q
+asks_right ops answers (Done m u) h q s goes_on p e = absurd (cc)
+asks_right ops answers (Stop r u) h q s goes_on p e = let is : r ≡ q = cc in absurd (goes_on (subst IsLast is p))
+asks_right ops [] (Ask r u next) h q s goes_on p e = let is : r ≡ q = cc in subst (Right ops h) is p.1
+asks_right ops (a ∷ answers) (Ask r u next) h q s goes_on p e = asks_right ops answers (next a) (with_answer r a h) q s goes_on (p.2 a) e
 
 pub uses_are_due : UsesAreDue
-uses_are_due t fuel answers n place s e = asks_right t.ops answers (dialogue t fuel) nothing_told (Use n place) s (dialogue_proper t fuel) e
+uses_are_due t fuel answers n place s e = asks_right t.ops answers (dialogue t fuel) nothing_told (Use n place) s (λ last. last) (dialogue_proper t fuel) e
 
 pub calls_fit : CallsFit
-calls_fit t fuel answers op line args s e = asks_right t.ops answers (dialogue t fuel) nothing_told (Call op line args) s (dialogue_proper t fuel) e
+calls_fit t fuel answers op line args s e = asks_right t.ops answers (dialogue t fuel) nothing_told (Call op line args) s (λ last. last) (dialogue_proper t fuel) e

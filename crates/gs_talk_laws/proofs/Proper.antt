@@ -24,16 +24,27 @@ use Rattle.gs_talk_laws.specs.Uses.{Told, with_answer, IsDue, is_left, kind_of, 
 use Rattle.gs_talk_laws.proofs.Fuel.{Then, ThenAll, ThenArgs}
 use Rattle.gs_talk_laws.proofs.Dues.{Waits, waits_set, waits_used, waits_called, IsHanded, IsPassed, Matches}
 
--- a question that is in order after what was told
+-- a question that comes last
+abbrev pub IsLast : Question → Type 0
+IsLast End = ⊤
+IsLast (Fault line fault) = ⊤
+IsLast FuelOut = ⊤
+IsLast (Use n place) = ⊥
+IsLast (Call op line args) = ⊥
+IsLast (OpenFile name mode line) = ⊥
+IsLast (CloseFile name bytes) = ⊥
+IsLast Barrier = ⊥
+
+-- a question that isn't the last, and is in order after what was told
 abbrev pub Right : List Signature → Told → Question → Type 0
 Right ops h (Use n place) = IsDue h n place
 Right ops h (Call op line args) = AreFit args (params_at ops op)
 Right ops h (OpenFile name mode line) = ⊤
 Right ops h (CloseFile name bytes) = ⊤
 Right ops h Barrier = ⊤
-Right ops h End = ⊤
-Right ops h (Fault line fault) = ⊤
-Right ops h FuelOut = ⊤
+Right ops h End = ⊥
+Right ops h (Fault line fault) = ⊥
+Right ops h FuelOut = ⊥
 
 pub record Holds (h : Told) (tasks actions : ℕ) (vars : List Slot) : Type 0 where
   pub called : tasks ≡ length h.calls
@@ -47,7 +58,7 @@ Well h s = Holds h s.tasks s.actions s.vars
 -- each question is in order, and there are no more than the actions' limit
 abbrev pub Proper : List Signature → Told → Dialogue → Type 0
 Proper ops h (Done n s) = Well h s
-Proper ops h (Stop q s) = Right ops h q
+Proper ops h (Stop q s) = IsLast q
 Proper ops h (Ask q s next) = (h.count < ACTION_LIMIT) × Right ops h q × ((a : Answer) → Proper ops (with_answer q a h) (next a))
 
 abbrev pub Keeps : List Signature → Meaning → Type 0

@@ -68,6 +68,12 @@ args_by first files w ws h [] args fits = refl
 args_by first files w ws h (p ∷ ps) [] fits = refl
 args_by first files w ws h (p ∷ ps) (a ∷ args) fits = ap₂ and_all (given_by first files w ws h p a fits.0) (args_by first files w ws h ps args fits.1)
 
+read_length : (ws : List Written) (ps : List Param) (args : List CallArg) → AreFit args ps → length (read_by ws ps args) ≡ length args
+read_length ws [] [] fits = refl
+read_length ws [] (a ∷ args) fits = absurd fits
+read_length ws (p ∷ ps) [] fits = refl
+read_length ws (p ∷ ps) (a ∷ args) fits = let e = read_length ws ps args fits.1 in omega arith
+
 -- a version that is read is the last one of a file that is passed
 abbrev ReadsFile : List Written → List CallArg → (i : ℕ) → Version → Type 0
 ReadsFile ws args i v = (name : List ℕ) × (slice_get args i ≡ Some (arg.File name)) × (latest name ws ≡ v)
@@ -88,7 +94,7 @@ reads_file_at ws (p ∷ ps) (a ∷ args) (suc i) v e = reads_file_at ws ps args 
 
 -- ---- the files after a task
 
-gives_fit : (law : Meaning) (op : List ℕ) (o : Option (List Arg)) (outs : List Value) → gives law op o ≡ Some outs → (xs : List Arg) × (o ≡ Some xs) × (fit xs outs ≡ true)
+pub gives_fit : (law : Meaning) (op : List ℕ) (o : Option (List Arg)) (outs : List Value) → gives law op o ≡ Some outs → (xs : List Arg) × (o ≡ Some xs) × (fit xs outs ≡ true)
 gives_fit law op None outs e = absurd (cc)
 gives_fit law op (Some xs) outs e = (xs, refl, of_law (law op (inputs xs)) e)
   where
@@ -157,6 +163,7 @@ new_task_of : (r : Run) (w : World) (ws : List Written) (rs : Readings) → Soun
 new_task_of r w ws rs s op args fits files = record {
   params = refl;
   fit = fits;
+  places = read_length ws (params_at r.texts.ops op) args fits;
   args = args_by r.files w.files (new_world r w op args) ws files (params_at r.texts.ops op) args fits;
   outs = refl;
   each = λ i v e. new_read r w ws rs s op args i v (reads_file_at ws (params_at r.texts.ops op) args i v e);

@@ -21,7 +21,7 @@ use Rattle.gs_talk.specs.Terms.{Placed, placed, all_placed}
 use Rattle.gs_talk.specs.Values.{is_zero, int_of, text_of}
 use Rattle.gs_talk.specs.Texts.{formatted, Taken, no_more, got, read_line_at}
 use Rattle.gs_talk.specs.Talk.{Given, names_of, State, Opened, Done, Ask, Meaning, then_do, step, fails, unless, action, set_to, with_text, with_handle, appended, closed, numbered, valued, all_valued, passed_valued, do_set, printing, do_print, printing_str, do_print_str, opened_at, open_fault, with_name, noting, absent, opened, asks_to_open, opening, do_open, closing_by, closing, do_close, writes, writing, do_print_file, line_taken, reading, do_read, do_barrier, Handed, all_handed, call_fault, files_in, with_names, went, calling, do_call, do_call_at, tested, branch, ended, turns, test_or_true, run_setting, run_maybe, variable, run, run_all, run_else, run_first, settled, leaving, finish, start, dialogue}
-use Rattle.gs_talk_laws.specs.Fuels.{Cut}
+use Rattle.gs_talk_laws.specs.Fuels.{Cut, SmallerIsCut}
 use Rattle.gs_talk_laws.proofs.Fuel.{Then, ThenAll, ThenArgs, Extends, extends_cut, extends_then, extends_wider, Grows, step_grows, done_grows, unless_extends, ask_extends, done_or_fails, fails_or, used_extends, valued_extends, all_extends, passed_extends}
 
 value_grows : (x line : ℕ) (t : Placed) (go go' : ℕ → Then) → ((n : ℕ) (v : Value) (u : State) → Extends x n (go n v u) (go' (n + x) v u)) → Grows x (step (λ n s. valued line t s (go n))) (step (λ n s. valued line t s (go' n)))
@@ -261,7 +261,7 @@ dialogue_grows x t fuel =
     (and_then_grows x (run_all t t.program.body) (finish t.program.off) (run_all_grows x t t.program.body) (finish_grows x t.program.off))) fuel (start t)
 
 -- of two fuels the smaller asks what the greater asks, but where it has no step left
-pub dialogue_cut : (t : Given) (fuel more : ℕ) → fuel ≤ more → Cut (dialogue t fuel) (dialogue t more)
+pub dialogue_cut : SmallerIsCut
 dialogue_cut t fuel more le =
     let same : fuel + (more - fuel) ≡ more = omega arith in
     subst (λ (m : ℕ). Cut (dialogue t fuel) (dialogue t m)) same (extends_cut (more - fuel) fuel (dialogue t fuel) (dialogue t (fuel + (more - fuel))) (dialogue_grows (more - fuel) t fuel))

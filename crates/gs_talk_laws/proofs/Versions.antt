@@ -130,6 +130,7 @@ pub task_later : (r : Run) (w v : World) → Grown w v → (n : ℕ) (t : Task) 
 task_later r w v g n t reads h = record {
   params = h.params;
   fit = h.fit;
+  places = h.places;
   args = h.args ∙ sym (args_later r.files w v g reads t.params t.called (λ i a e. ((h.each i a e).name, (h.each i a e).version)));
   outs = h.outs;
   each = λ i a e. record {

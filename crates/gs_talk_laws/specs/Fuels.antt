@@ -3,7 +3,7 @@ use Rattle.std.specs.Prelude.{◌≡◌, ◌≢◌, ℕ, zero, suc, ◌≤◌, L
 use Rattle.gs_talk.specs.declared.question.Question.{Question}
 use Rattle.gs_talk.specs.declared.question.Question.TheVariants.{FuelOut}
 use Rattle.gs_talk.specs.declared.question.Answer.{Answer}
-use Rattle.gs_talk.specs.Talk.{Given, State, Dialogue, Done, Ask, Stop, Asks, after, talk}
+use Rattle.gs_talk.specs.Talk.{Given, State, Dialogue, Done, Ask, Stop, Asks, after, talk, dialogue}
 use Rattle.gs_talk.specs.Seq.{Run, World, Standing, Task, seq, reply, EndsIn, IsTask}
 use Rattle.gs_talk_laws.specs.Numbers.{at_number}
 
@@ -17,6 +17,10 @@ abbrev pub Cut : Dialogue → Dialogue → Type 0
 Cut (Done n s) e = (m : ℕ) × (e ≡ Done m s)
 Cut (Ask q s next) e = (more : Answer → Dialogue) × (e ≡ Ask q s more) × ((a : Answer) → Cut (next a) (more a))
 Cut (Stop q s) e = (q ≡ FuelOut) ⊎ (e ≡ Stop q s)
+
+-- of two fuels the smaller asks what the greater asks, but where it has no step left
+abbrev pub SmallerIsCut : Type 0
+SmallerIsCut = (t : Given) (fuel more : ℕ) → fuel ≤ more → Cut (dialogue t fuel) (dialogue t more)
 
 -- what is asked after some answers is asked at every greater fuel, with the same state, but for the fuel's end
 abbrev pub MoreFuel : Type 0

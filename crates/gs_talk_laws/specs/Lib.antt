@@ -3,3 +3,4 @@ pub mod Fuels
 pub mod Uses
 pub mod Ends
 pub mod Versions
+pub mod Stuck

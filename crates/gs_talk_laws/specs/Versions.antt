@@ -186,6 +186,7 @@ pub record IsRead (w : World) (n : ℕ) (called : List CallArg) (i : ℕ) (v : V
 pub record IsTaskOf (r : Run) (w : World) (n : ℕ) (t : Task) (reads : List (Option Version)) : Type 0 where
   pub params : t.params ≡ params_at r.texts.ops t.op
   pub fit : AreFit t.called t.params
+  pub places : length reads ≡ length t.called
   pub args : t.args ≡ all_given_by r.files w reads t.params t.called
   pub outs : t.outs ≡ gives r.law (name_at r.texts.ops t.op) t.args
   pub each : (i : ℕ) (v : Version) → slice_get reads i ≡ Some (Some v) → IsRead w n t.called i v

@@ -1,6 +1,7 @@
 //! Laws, as contracts of functions that do nothing.
 
 ghost use Rattle.gs_talk_laws.specs.Fuels.{
+  SmallerIsCut,
   MoreFuel,
   FuelPrefix,
   SameStandings,
@@ -12,6 +13,7 @@ ghost use Rattle.gs_talk_laws.specs.Fuels.{
 };
 ghost use Rattle.gs_talk_laws.specs.Ends.{EachRunEnds, EndsStay};
 ghost use Rattle.gs_talk_laws.specs.Uses.{UsesAreDue, CallsFit};
+ghost use Rattle.gs_talk_laws.specs.Stuck.{FilesAreKnown, StuckIsLost, UsesAreOfTasks};
 ghost use Rattle.gs_talk_laws.specs.Versions.{
   ClosedStay,
   FilesAreVersions,
@@ -24,6 +26,7 @@ ghost use Rattle.gs_talk_laws.specs.Versions.{
 
 /// More fuel asks the same.
 pub fn more_fuel()
+    ensures dialogues { SmallerIsCut }
     ensures questions { MoreFuel }
     ensures exchanges { FuelPrefix }
     ensures standings { SameStandings }
@@ -77,4 +80,11 @@ pub fn all_stays()
     ensures tasks { TasksStay }
     ensures closed { ClosedStay }
     ensures readings { ReadingsStay }
+{}
+
+/// A run is stuck only while a task is lost; a use names one of its tasks.
+pub fn stuck_is_lost()
+    ensures uses { UsesAreOfTasks }
+    ensures files { FilesAreKnown }
+    ensures stuck { StuckIsLost }
 {}
