@@ -12,5 +12,7 @@ pub mod Outputs
 pub mod Versions
 pub mod Renaming
 pub mod Stays
+pub mod Writers
+pub mod Depends
 pub mod Places
 pub mod Stuck

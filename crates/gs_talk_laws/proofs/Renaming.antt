@@ -310,7 +310,7 @@ seq_proper r (suc k) =
     let h = seq_proper r k in
     subst (λ (at : Standing). SomeProper r at.rest) (sym (next_seq r k)) (step_proper r (seq r k) (seq r k).rest h.0 h h.1)
 
-next_writings : (r : Run) (k : ℕ) → writings r (suc k) ≡ writings r k ++ written_next r (seq r k).world (seq r k).rest
+pub next_writings : (r : Run) (k : ℕ) → writings r (suc k) ≡ writings r k ++ written_next r (seq r k).world (seq r k).rest
 unfolding writings
 next_writings r k = refl
 

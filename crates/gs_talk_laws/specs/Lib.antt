@@ -4,3 +4,4 @@ pub mod Uses
 pub mod Ends
 pub mod Versions
 pub mod Stuck
+pub mod Depends

@@ -12,6 +12,11 @@ ghost use Rattle.gs_talk_laws.specs.Fuels.{
   OneEnd,
 };
 ghost use Rattle.gs_talk_laws.specs.Ends.{EachRunEnds, EndsStay};
+ghost use Rattle.gs_talk_laws.specs.Depends.{
+  DependsOnWhatItReads,
+  LastWriterWrote,
+  ReadsWhatItDependsOn,
+};
 ghost use Rattle.gs_talk_laws.specs.Uses.{UsesAreDue, CallsFit};
 ghost use Rattle.gs_talk_laws.specs.Stuck.{FilesAreKnown, StuckIsLost, UsesAreOfTasks};
 ghost use Rattle.gs_talk_laws.specs.Versions.{
@@ -87,4 +92,11 @@ pub fn stuck_is_lost()
     ensures uses { UsesAreOfTasks }
     ensures files { FilesAreKnown }
     ensures stuck { StuckIsLost }
+{}
+
+/// A task truly depends on exactly those tasks whose outputs it reads.
+pub fn depends_on_what_it_reads()
+    ensures writers { LastWriterWrote }
+    ensures reads { ReadsWhatItDependsOn }
+    ensures depends { DependsOnWhatItReads }
 {}
