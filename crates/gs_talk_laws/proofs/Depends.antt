@@ -19,8 +19,9 @@ use Rattle.gs_talk_laws.specs.Uses.{Told}
 use Rattle.gs_talk_laws.specs.Versions.{Written, latest, if_goes, read_by, read_next, readings, writings}
 use Rattle.gs_talk_laws.specs.Depends.{Wrote, ReadsFrom, ReadsWhatItDependsOn, DependsOnWhatItReads}
 use Rattle.gs_talk_laws.proofs.Lists.{get_either, get_last}
+use Rattle.gs_talk_laws.proofs.Telling.{seq_told}
 use Rattle.gs_talk_laws.proofs.Proper.{IsLast, Proper}
-use Rattle.gs_talk_laws.proofs.Renaming.{Readings, next_readings, seq_proper, always_sound}
+use Rattle.gs_talk_laws.proofs.Renaming.{Readings, next_readings, always_sound}
 use Rattle.gs_talk_laws.proofs.Writers.{next_acts, last_writer_wrote}
 
 -- ---- a question that calls, and one that doesn't
@@ -74,7 +75,7 @@ calls_or_not r w told (Ask q s next) p = asks_calls r w q s next
 calls_or_not r w told (Stop q s) p = inr (stop_silent r w q s p)
 
 at_moment : (r : Run) (m : ℕ) → Calls r (seq r m).world (seq r m).rest ⊎ CallsNot r (seq r m).world (seq r m).rest
-at_moment r m = let told = seq_proper r m in calls_or_not r (seq r m).world told.0 (seq r m).rest told.1
+at_moment r m = let t = seq_told r m in calls_or_not r (seq r m).world t.told (seq r m).rest t.proper
 
 -- ---- the moment of an action
 

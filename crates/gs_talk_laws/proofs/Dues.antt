@@ -8,7 +8,7 @@ use Rattle.gs_talk.specs.declared.question.CallArg.{CallArg}
 use Rattle.gs_talk.specs.Talk.{Handed, by_value, into, pended}
 use Rattle.gs_talk_laws.specs.Numbers.{at_number}
 use Rattle.gs_talk_laws.specs.Uses.{IsCalled, IsIn, is_left, FitsParam}
-use Rattle.gs_talk_laws.proofs.Lists.{number_longer, number_within, get_last}
+use Rattle.gs_talk_laws.proofs.Lists.{number_longer, number_within, get_last, RestOf, here_of, after_of, all_of}
 
 set_gives : (vars : List Slot) (i j : ℕ) (x y : Slot) → slice_get (set vars i x) j ≡ Some y → ((j ≡ i) × (x ≡ y)) ⊎ ((j ≢ i) × (slice_get vars j ≡ Some y))
 set_gives [] i j x y h = absurd (cc)
@@ -122,18 +122,8 @@ one_pends calls uses m next x vars called unused h i n k e = of_slot (set_gives 
           λ g. let lt = w.1 g in omega arith,
         )
 
--- the places from one on are those that are left of the call
-abbrev Rest : List CallArg → (next : ℕ) → List CallArg → Type 0
-Rest all next args = (j : ℕ) → at_number all (next + j) ≡ slice_get args j
-
-rest_here : (all : List CallArg) (next : ℕ) (a : CallArg) (args : List CallArg) → Rest all next (a ∷ args) → at_number all next ≡ Some a
-rest_here all next a args h = let e : next ≡ next + 0 = omega arith in ap (at_number all) e ∙ h 0
-
-rest_after : (all : List CallArg) (next : ℕ) (a : CallArg) (args : List CallArg) → Rest all next (a ∷ args) → Rest all (suc next) args
-rest_after all next a args h j = let e : suc next + j ≡ next + suc j = omega arith in ap (at_number all) e ∙ h (suc j)
-
 all_pend : (calls : Calls) (uses : Uses) (m : ℕ) (all : List CallArg) → at_number calls m ≡ Some all → ((k : ℕ) → IsIn uses m k → ⊥) →
-    (hs : List Handed) (ps : List Param) (args : List CallArg) (next : ℕ) (vars : List Slot) → Rest all next args → Matches hs ps args → Pending calls uses m next vars →
+    (hs : List Handed) (ps : List Param) (args : List CallArg) (next : ℕ) (vars : List Slot) → RestOf all next args → Matches hs ps args → Pending calls uses m next vars →
     (i n k : ℕ) → slice_get (pended m next hs vars) i ≡ Some (Due n k) → WaitsWell calls uses (pended m next hs vars) i n k
 all_pend calls uses m all at unused [] ps args next vars rest match h i n k e = (h i n k e).0
 all_pend calls uses m all at unused (into x ∷ hs) [] args next vars rest match h i n k e = absurd match
@@ -141,10 +131,10 @@ all_pend calls uses m all at unused (by_value t ∷ hs) [] args next vars rest m
 all_pend calls uses m all at unused (into x ∷ hs) (p ∷ ps) [] next vars rest match h i n k e = absurd match
 all_pend calls uses m all at unused (by_value t ∷ hs) (p ∷ ps) [] next vars rest match h i n k e = absurd match
 all_pend calls uses m all at unused (by_value t ∷ hs) (p ∷ ps) (a ∷ args) next vars rest match h i n k e =
-    all_pend calls uses m all at unused hs ps args (suc next) vars (rest_after all next a args rest) match.1 (wider calls uses m next vars h) i n k e
+    all_pend calls uses m all at unused hs ps args (suc next) vars (after_of all next a args rest) match.1 (wider calls uses m next vars h) i n k e
 all_pend calls uses m all at unused (into x ∷ hs) (p ∷ ps) (a ∷ args) next vars rest match h i n k e =
-    let called : IsCalled calls m next = record { args = all; arg = a; called = at; stands = rest_here all next a args rest; left = match.0.1 } in
-    all_pend calls uses m all at unused hs ps args (suc next) (set vars x (Due m next)) (rest_after all next a args rest) match.1 (one_pends calls uses m next x vars called (unused next) h) i n k e
+    let called : IsCalled calls m next = record { args = all; arg = a; called = at; stands = here_of all next a args rest; left = match.0.1 } in
+    all_pend calls uses m all at unused hs ps args (suc next) (set vars x (Due m next)) (after_of all next a args rest) match.1 (one_pends calls uses m next x vars called (unused next) h) i n k e
 
 pub waits_called : (calls : Calls) (uses : Uses) (tasks : ℕ) (vars : List Slot) (hs : List Handed) (ps : List Param) (args : List CallArg) → tasks ≡ length calls → Matches hs ps args → Waits calls uses vars →
     Waits (calls ++ args ∷ []) uses (pended (tasks + 1) 1 hs vars)
@@ -158,8 +148,7 @@ waits_called calls uses tasks vars hs ps args count match h =
       (still_called calls args n k (h.waits i n k e).0, (h.waits i n k e).1, (h.waits i n k e).2),
       λ g. let b = called_below calls n k (h.waits i n k e).0 in absurd (omega (arith, count)),
     ) in
-    let rest : Rest args 1 args = λ j. let e : 1 + j ≡ suc j = omega arith in ap (at_number args) e in
     record {
       before = λ n k g. let b : n ≤ length calls = h.before n k g in omega (arith, longer);
-      waits = all_pend (calls ++ args ∷ []) uses (tasks + 1) args at unused hs ps args 1 vars rest match begin;
+      waits = all_pend (calls ++ args ∷ []) uses (tasks + 1) args at unused hs ps args 1 vars (all_of args) match begin;
     }

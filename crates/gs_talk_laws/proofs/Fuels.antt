@@ -8,8 +8,8 @@ use Rattle.gs_talk.specs.Talk.{State, Dialogue, Done, Ask, Stop, Asks, dialogue,
 use Rattle.gs_talk.specs.Seq.{Run, World, Task, Standing, seq, step, step_by, answered, reply, world_after, any_lost, last_by, last_of, task_at, EndsIn, IsTask}
 use Rattle.gs_talk_laws.specs.Fuels.{IsPrefixOf, Cut, MoreFuel, with_fuel, exchange, exchanges, FuelPrefix, HasRunOut, Alike, SameStandings, TasksGoOn, SameTasks, IsClosed, SameClosed, SameEnd, OneEnd}
 use Rattle.gs_talk_laws.specs.Numbers.{at_number}
-use Rattle.gs_talk_laws.proofs.Lists.{get_longer, number_longer}
-use Rattle.gs_talk_laws.proofs.Staying.{seq_grown, next_seq, next_exchanges, seq_exchanged, stays}
+use Rattle.gs_talk_laws.proofs.Stays.{tasks_stay, closed_stay}
+use Rattle.gs_talk_laws.proofs.Staying.{next_seq, next_exchanges, seq_exchanged, stays}
 use Rattle.gs_talk_laws.proofs.Statements.{dialogue_cut}
 use Rattle.gs_talk_laws.proofs.Ending.{NeverDone, seq_never}
 
@@ -167,27 +167,20 @@ same_standings r fuel more k le =
 
 -- ---- tasks and contents
 
-task_later : (r : Run) (k more n : ℕ) (t : Task) → k ≤ more → task_at (seq r k).world.tasks n ≡ Some t → task_at (seq r more).world.tasks n ≡ Some t
-task_later r k more zero t le e = absurd (cc)
-task_later r k more (suc n) t le e = get_longer (seq r k).world.tasks (seq r more).world.tasks n t (seq_grown r k more le).tasks e
-
-closed_later : (r : Run) (k more n : ℕ) (b : List ℕ) → k ≤ more → at_number (seq r k).world.closed n ≡ Some b → at_number (seq r more).world.closed n ≡ Some b
-closed_later r k more n b le e = number_longer (seq r k).world.closed (seq r more).world.closed n b (seq_grown r k more le).closed e
-
 -- a task of a run is one
 pub one_task : (r : Run) (n : ℕ) (t u : Task) → IsTask r n t → IsTask r n u → t ≡ u
 one_task r n t u a b = by_order (cases_lt a.moment b.moment)
   where
     by_order : (a.moment < b.moment) ⊎ (b.moment ≤ a.moment) → t ≡ u
-    by_order (inl lt) = let e = task_later r a.moment b.moment n t (omega arith) a.is in let f = b.is in cc
-    by_order (inr le) = let e = task_later r b.moment a.moment n u le b.is in let f = a.is in cc
+    by_order (inl lt) = let e = tasks_stay r a.moment b.moment n t (omega arith) a.is in let f = b.is in cc
+    by_order (inr le) = let e = tasks_stay r b.moment a.moment n u le b.is in let f = a.is in cc
 
 pub one_closed : (r : Run) (n : ℕ) (b c : List ℕ) → IsClosed r n b → IsClosed r n c → b ≡ c
 one_closed r n b c x y = by_order (cases_lt x.moment y.moment)
   where
     by_order : (x.moment < y.moment) ⊎ (y.moment ≤ x.moment) → b ≡ c
-    by_order (inl lt) = let e = closed_later r x.moment y.moment n b (omega arith) x.is in let f = y.is in cc
-    by_order (inr le) = let e = closed_later r y.moment x.moment n c le y.is in let f = x.is in cc
+    by_order (inl lt) = let e = closed_stay r x.moment y.moment n b (omega arith) x.is in let f = y.is in cc
+    by_order (inr le) = let e = closed_stay r y.moment x.moment n c le y.is in let f = x.is in cc
 
 pub tasks_go_on : TasksGoOn
 tasks_go_on r fuel more n t le h =

@@ -1,5 +1,5 @@
 -- Prefixes and places of lists.
-use Rattle.std.proofs.Common.{◌≡◌, ◌<◌, ◌≤◌, ℕ, zero, suc, refl, sym, ap, ◌∙◌, List, [], ◌∷◌, ◌++◌, length, Some, slice_get, ◌⊎◌, inl, inr, append_assoc, append-nil, arith}
+use Rattle.std.proofs.Common.{◌≡◌, ◌<◌, ◌≤◌, ◌+◌, ℕ, zero, suc, refl, sym, ap, ◌∙◌, List, [], ◌∷◌, ◌++◌, length, Some, slice_get, ◌⊎◌, inl, inr, append_assoc, append-nil, arith}
 use Rattle.gs_talk_laws.specs.Fuels.{IsPrefixOf}
 use Rattle.gs_talk_laws.specs.Numbers.{at_number}
 
@@ -46,3 +46,16 @@ get_either [] x zero y h = inr (refl, cc)
 get_either [] x (suc i) y h = absurd (cc)
 get_either (z ∷ xs) x zero y h = inl h
 get_either (z ∷ xs) x (suc i) y h = elim (get_either xs x i y h) [ inl e ↦ inl e | inr e ↦ inr (ap suc e.0, e.1) ]
+
+-- from a place on, these are the rest of a list
+abbrev pub RestOf : {A : Type 0} → List A → (place : ℕ) → List A → Type 0
+RestOf all place xs = (j : ℕ) → at_number all (place + j) ≡ slice_get xs j
+
+pub here_of : {A : Type 0} (all : List A) (place : ℕ) (x : A) (xs : List A) → RestOf all place (x ∷ xs) → at_number all place ≡ Some x
+here_of all place x xs h = let e : place ≡ place + 0 = omega arith in ap (at_number all) e ∙ h 0
+
+pub after_of : {A : Type 0} (all : List A) (place : ℕ) (x : A) (xs : List A) → RestOf all place (x ∷ xs) → RestOf all (suc place) xs
+after_of all place x xs h j = let e : suc place + j ≡ place + suc j = omega arith in ap (at_number all) e ∙ h (suc j)
+
+pub all_of : {A : Type 0} (all : List A) → RestOf all 1 all
+all_of all j = let e : 1 + j ≡ suc j = omega arith in ap (at_number all) e

@@ -17,14 +17,14 @@ use Rattle.gs_talk.specs.declared.question.Answer.{Answer}
 use Rattle.gs_talk.specs.Talk.{Dialogue, Done, Ask, Stop}
 use Rattle.gs_talk.specs.Seq.{Run, World, Files, Content, Known, Lost, Task, Standing, seq, step_by, answered, reply, went_unless, world_after, after_call, first_refused, task_of, ran, with_file, file_given, given, and_all, all_given, gives, fitting, fit, files_by, output_at, output_by, output_of, task_at}
 use Rattle.gs_talk_laws.specs.Numbers.{at_number}
-use Rattle.gs_talk_laws.specs.Uses.{Told, with_answer, nothing_told, FitsParam, AreFit}
+use Rattle.gs_talk_laws.specs.Uses.{Told, FitsParam, AreFit}
 use Rattle.gs_talk_laws.specs.Versions.{Written, latest_from, latest, written_by, if_goes, written_in, written_next, writings, left_by, closed_as, version_value, IsStored, IsVersionOf, read_at, read_by, read_in, read_next, readings, content_by, all_given_by, IsRead, IsTaskOf}
-use Rattle.gs_talk_laws.proofs.Lists.{prefix_same, number_longer, get_either, get_last}
+use Rattle.gs_talk_laws.proofs.Lists.{all_of, prefix_same, number_longer, get_either, get_last}
 use Rattle.gs_talk_laws.proofs.Staying.{Grown, next_seq}
 use Rattle.gs_talk_laws.proofs.Outputs.{Left, lost_files, set_files, and_true, file_kind, if_same}
 use Rattle.gs_talk_laws.proofs.Proper.{Right, Proper}
-use Rattle.gs_talk_laws.proofs.Programs.{dialogue_proper}
-use Rattle.gs_talk_laws.proofs.Versions.{version_later, value_later, latest-append, AllStored, all_later, all-append, latest_stored, written_stored, all_of, task_later, version_before}
+use Rattle.gs_talk_laws.proofs.Telling.{seq_told}
+use Rattle.gs_talk_laws.proofs.Versions.{version_later, value_later, latest-append, AllStored, all_later, all-append, latest_stored, written_stored, task_later, version_before}
 
 abbrev pub Readings : Type 0
 Readings = List (List (Option Version))
@@ -288,28 +288,6 @@ dialogue_sound r at ws rs h s (Ask q u next) p =
 
 -- ---- at each moment
 
-abbrev SomeProper : Run → Dialogue → Type 0
-SomeProper r d = (h : Told) × Proper r.texts.ops h d
-
-step_proper : (r : Run) (at : Standing) (d : Dialogue) (h : Told) → SomeProper r at.rest → Proper r.texts.ops h d → SomeProper r (step_by r at d).rest
-step_proper r at (Done n s) h here p = here
-step_proper r at (Stop q s) h here p = here
-step_proper r at (Ask q s next) h here p = of_reply (reply r.texts.ops at.world q)
-  where
-    of_reply : (o : Option Answer) → SomeProper r (answered r at q next o).rest
-    of_reply None = here
-    of_reply (Some a) = (with_answer q a h, p.2 a)
-
-first_proper : (r : Run) → SomeProper r (seq r zero).rest
-unfolding seq
-first_proper r = (nothing_told, dialogue_proper r.texts r.fuel)
-
-pub seq_proper : (r : Run) (k : ℕ) → SomeProper r (seq r k).rest
-seq_proper r zero = first_proper r
-seq_proper r (suc k) =
-    let h = seq_proper r k in
-    subst (λ (at : Standing). SomeProper r at.rest) (sym (next_seq r k)) (step_proper r (seq r k) (seq r k).rest h.0 h h.1)
-
 pub next_writings : (r : Run) (k : ℕ) → writings r (suc k) ≡ writings r k ++ written_next r (seq r k).world (seq r k).rest
 unfolding writings
 next_writings r k = refl
@@ -329,5 +307,5 @@ first_sound r = record { files = λ x. refl; stored = λ i y e. absurd (cc); cou
 pub always_sound : (r : Run) (k : ℕ) → Sound r (seq r k).world (writings r k) (readings r k)
 always_sound r zero = first_sound r
 always_sound r (suc k) =
-    let h = seq_proper r k in
-    rw (next_seq r k, next_writings r k, next_readings r k) (dialogue_sound r (seq r k) (writings r k) (readings r k) h.0 (always_sound r k) (seq r k).rest h.1)
+    let h = seq_told r k in
+    rw (next_seq r k, next_writings r k, next_readings r k) (dialogue_sound r (seq r k) (writings r k) (readings r k) h.told (always_sound r k) (seq r k).rest h.proper)

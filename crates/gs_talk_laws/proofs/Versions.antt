@@ -1,5 +1,5 @@
 -- Versions in a world that grows.
-use Rattle.std.proofs.Common.{◌≡◌, ◌<◌, ◌≤◌, ◌+◌, ℕ, zero, suc, Bool, true, false, refl, sym, ap, ap₂, ◌∙◌, subst, List, [], ◌∷◌, ◌++◌, length, Option, Some, None, arith, slice_get, inl, inr, if◌then◌else◌}
+use Rattle.std.proofs.Common.{◌≡◌, ◌<◌, ◌≤◌, ℕ, zero, suc, Bool, true, false, refl, sym, ap, ap₂, ◌∙◌, subst, List, [], ◌∷◌, ◌++◌, length, Option, Some, None, arith, slice_get, inl, inr, if◌then◌else◌}
 use Rattle.std.specs.Str.{bytes_eq}
 use Rattle.std.proofs.lemmas.Slice.Eq.{bytes_eq-Decides}
 use Rattle.gs_idl.specs.Interface.{Param, writes_file}
@@ -11,7 +11,7 @@ use Rattle.gs_talk.specs.Seq.{Run, World, Files, Task, given, and_all, output_of
 use Rattle.gs_talk_laws.specs.Fuels.{IsPrefixOf}
 use Rattle.gs_talk_laws.specs.Numbers.{at_number}
 use Rattle.gs_talk_laws.specs.Versions.{Written, latest_from, written_at, written_by, left_by, closed_as, version_value, IsStored, IsVersionOf, content_by, all_given_by, IsBefore, IsTaskOf}
-use Rattle.gs_talk_laws.proofs.Lists.{get_longer, get_within, number_longer}
+use Rattle.gs_talk_laws.proofs.Lists.{get_longer, get_within, number_longer, RestOf, here_of, after_of}
 use Rattle.gs_talk_laws.proofs.Staying.{Grown}
 
 pub task_longer : (xs ys : List Task) (n : ℕ) (t : Task) → IsPrefixOf xs ys → task_at xs n ≡ Some t → task_at ys n ≡ Some t
@@ -79,19 +79,6 @@ latest_stored w x (y ∷ ws) v h k = latest_stored w x ws (if bytes_eq y.name x 
     of_test false e = k
 
 -- ---- what a task leaves is stored
-
--- from the place on, these are the rest of a list
-abbrev pub RestOf : {A : Type 0} → List A → (place : ℕ) → List A → Type 0
-RestOf all place xs = (j : ℕ) → at_number all (place + j) ≡ slice_get xs j
-
-here_of : {A : Type 0} (all : List A) (place : ℕ) (x : A) (xs : List A) → RestOf all place (x ∷ xs) → at_number all place ≡ Some x
-here_of all place x xs h = let e : place ≡ place + 0 = omega arith in ap (at_number all) e ∙ h 0
-
-after_of : {A : Type 0} (all : List A) (place : ℕ) (x : A) (xs : List A) → RestOf all place (x ∷ xs) → RestOf all (suc place) xs
-after_of all place x xs h j = let e : suc place + j ≡ place + suc j = omega arith in ap (at_number all) e ∙ h (suc j)
-
-pub all_of : {A : Type 0} (all : List A) → RestOf all 1 all
-all_of all j = let e : 1 + j ≡ suc j = omega arith in ap (at_number all) e
 
 stored_file : (w : World) (n : ℕ) (t : Task) → task_at w.tasks n ≡ Some t → (p : Param) (name : List ℕ) (place : ℕ) (more : List Written) → at_number t.params place ≡ Some p → at_number t.called place ≡ Some (arg.File name) →
     AllStored w more → AllStored w (written_at n place p (arg.File name) more)

@@ -17,8 +17,9 @@ use Rattle.gs_talk.specs.Actions.{Act, cons_if, names_where, unless_refused, act
 use Rattle.gs_talk_laws.specs.Uses.{Told}
 use Rattle.gs_talk_laws.specs.Versions.{Written, latest_from, latest, written_by, if_goes, written_in, written_next, writings}
 use Rattle.gs_talk_laws.specs.Depends.{Wrote, LastWriterWrote}
+use Rattle.gs_talk_laws.proofs.Telling.{seq_told}
 use Rattle.gs_talk_laws.proofs.Proper.{IsLast, Proper}
-use Rattle.gs_talk_laws.proofs.Renaming.{next_writings, seq_proper}
+use Rattle.gs_talk_laws.proofs.Renaming.{next_writings}
 use Rattle.gs_talk_laws.proofs.Versions.{latest-append}
 
 -- ---- the last writer of two lists
@@ -129,6 +130,6 @@ first_wrote r name = refl
 pub last_writer_wrote : LastWriterWrote
 last_writer_wrote r zero name = first_wrote r name
 last_writer_wrote r (suc k) name =
-    let told = seq_proper r k in
-    let h = dialogue_wrote r (seq r k).world told.0 name (acts r k) (latest name (writings r k)) (seq r k).rest told.1 (last_writer_wrote r k name) in
+    let t = seq_told r k in
+    let h = dialogue_wrote r (seq r k).world t.told name (acts r k) (latest name (writings r k)) (seq r k).rest t.proper (last_writer_wrote r k name) in
     rw (next_acts r k, next_writings r k, latest-append (Original name) name (writings r k) (written_next r (seq r k).world (seq r k).rest)) h
