@@ -5,7 +5,7 @@ use Rattle.gs_run.proofs.writing.write_files.Goals as goal
 
 pub loop-name-preserved : goal.loop-name-preserved
 loop-name-preserved g c =
-    let has : content_of c.args.changed.now.files.map c.name-item.result ≡ Some c.bytes.result.now = sym c.in-Some.ensures ∙ ap (λ (b : List ℕ). Some b) (sym c.bytes.ensures) in
+    let has : content_of c.args.changed.now.files.map c.name-item.result ≡ Some c.bytes.result.now = sym c.in-Some.ensures ∙ ap (λ (b : List ℕ). Some b) (sym c.bytes.ensures.value) in
     record {
       faults = omega (arith, c.loop-name.invariant.faults, c.write_file.ensures.cause.faults_rise);
       refusals = omega (arith, c.loop-name.invariant.refusals, c.write_file.ensures.cause.refusals_rise);
