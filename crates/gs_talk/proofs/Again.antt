@@ -1,11 +1,11 @@
 -- An evaluation that asked for a variable's value may begin again.
-use Rattle.std.proofs.Common.{◌≡◌, ℕ, refl, sym, ap, ◌∙◌, List, [], ◌∷◌, set, Result, Ok, Err, Option, Some, None, nat_lt, if◌then◌else◌, slice_get}
-use Rattle.std.specs.Prelude.{ℤ, pos}
+use Rattle.std.proofs.Common.{◌≡◌, ℕ, refl, sym, ap, ◌∙◌, List, [], ◌∷◌, Result, Ok, Err, Option, Some, None, nat_lt, if◌then◌else◌, slice_get}
+use Rattle.std.specs.Prelude.{ℤ}
 use mathlib.Core.Path.{fun_ext}
 use Rattle.gs_idl.specs.Interface.{Param}
 use Rattle.gs_types.specs.declared.limits.TheConstants.{ACTION_LIMIT}
 use Rattle.gs_types.specs.declared.value.Value.{Value}
-use Rattle.gs_types.specs.declared.value.Value.TheVariants.{Int, Str}
+use Rattle.gs_types.specs.declared.value.Value.TheVariants.{Int}
 use Rattle.gs_types.specs.declared.settings.FaultKind.{FaultKind}
 use Rattle.gs_types.specs.declared.settings.FaultKind.TheVariants.{TooManyActions}
 use Rattle.gs_talk.specs.declared.slot.Slot.{Slot}

@@ -2,12 +2,11 @@
 use Rattle.std.proofs.Common.{◌≡◌, ℕ, zero, suc, refl, ap, ◌∙◌, subst, List, [], ◌∷◌, set, Result, Ok, Err, Option, Some, None, slice_get, ◌⊎◌, inl, inr}
 use Rattle.std.specs.Prelude.{ℤ, pos, ◌-ℤ◌}
 use Rattle.gs_types.specs.declared.value.Value.{Value}
-use Rattle.gs_types.specs.declared.value.Value.TheVariants.{Int, Str}
 use Rattle.gs_types.specs.declared.settings.FaultKind.{FaultKind}
 use Rattle.gs_talk.specs.declared.slot.Slot.{Slot}
 use Rattle.gs_talk.specs.declared.slot.Slot.TheVariants.{Held, Due}
 use Rattle.gs_talk.specs.Terms.{Placed, number, text, at, converted, compared, negated, inverted, both}
-use Rattle.gs_talk.specs.Values.{Trouble, Kind, Need, value_of, held_at, with_value, unless_decided, or_kind, decided, apply, fit, truth, is_zero, order_of, atoi_of, int_of, text_of}
+use Rattle.gs_talk.specs.Values.{Trouble, Need, value_of, held_at, with_value, unless_decided, or_kind, decided, apply, fit, truth, is_zero, order_of, atoi_of, int_of, text_of}
 
 -- ---- a variable that waits
 

@@ -2,6 +2,7 @@
 ghost use Rattle.std.specs.Prelude.{◌≡◌};
 
 use gs_types::{FaultKind, NoMemory};
+use std::alloc::AllocFailed;
 
 /// Why an expression by places has no value: a fault, the variable `i` that waits for task `n`'s value at a place,
 /// from 1, or want of memory.
@@ -18,6 +19,16 @@ impl From<NoMemory> for Trouble {
     ghost from_gives = { λ _ e. e ≡ trouble.NoMemory };
 
     fn from(_e: NoMemory) -> Trouble {
+        Trouble::NoMemory
+    }
+}
+
+impl<T: Drop> From<AllocFailed<T>> for Trouble {
+    ghost use Rattle.gs_talk.specs.declared.error.Trouble.TheVariants as trouble;
+
+    ghost from_gives = { λ _ e. e ≡ trouble.NoMemory };
+
+    fn from(_e: AllocFailed<T>) -> Trouble {
         Trouble::NoMemory
     }
 }

@@ -49,10 +49,7 @@ fn look(alloc: Global, i: usize, vars: &[Slot]) -> Result<Value, Trouble>
 {
     match vars.get(i) {
         None => Ok(Value::Int { v: 0 }),
-        Some(Slot::Held { v }) => match v.copy(alloc) {
-            Ok(v) => Ok(v),
-            Err(_) => Err(Trouble::NoMemory),
-        },
+        Some(Slot::Held { v }) => Ok(v.copy(alloc)?),
         Some(Slot::Due { n, place }) => Err(Trouble::Need {
             i,
             n: *n,
@@ -63,58 +60,52 @@ fn look(alloc: Global, i: usize, vars: &[Slot]) -> Result<Value, Trouble>
 
 /// The value of an expression, or the first trouble from the left. `&&` and `||` leave the right side out where the
 /// left side decides.
-pub fn value(e: &Formula, alloc: Global, vars: &[Slot]) -> Result<Value, Trouble>
+pub fn value(alloc: Global, e: &Formula, vars: &[Slot]) -> Result<Value, Trouble>
     ensures { Finds (value_of (placed_of e.now) vars.now) result }
 {
     match e {
         Formula::Num { v } => Ok(Value::Int { v: *v }),
-        Formula::Lit { s } => match s.copy(alloc) {
-            Ok(s) => Ok(Value::Str { s }),
-            Err(_) => Err(Trouble::NoMemory),
-        },
+        Formula::Lit { s } => Ok(Value::Str { s: s.copy(alloc)? }),
         Formula::At { i } => look(alloc, *i, vars),
         Formula::Atoi { e } => {
-            let x = value(e, alloc, vars)?;
+            let x = value(alloc, e, vars)?;
             or_kind(atoi(text_of(&x)))
         }
         Formula::Strcmp { a, b } => {
-            let x = value(a, alloc, vars)?;
-            let y = value(b, alloc, vars)?;
+            let x = value(alloc, a, vars)?;
+            let y = value(alloc, b, vars)?;
             Ok(Value::Int {
                 v: order_of(text_of(&x), text_of(&y)),
             })
         }
         Formula::Neg { e } => {
-            let x = value(e, alloc, vars)?;
+            let x = value(alloc, e, vars)?;
             or_kind(negated(int_of(&x)))
         }
         Formula::Not { e } => {
-            let x = value(e, alloc, vars)?;
+            let x = value(alloc, e, vars)?;
             Ok(Value::Int {
                 v: truth(is_zero(int_of(&x))),
             })
         }
         Formula::Two { op, a, b } => {
-            let x = int_of(&value(a, alloc, vars)?);
+            let x = int_of(&value(alloc, a, vars)?);
             if let Some(v) = decided(*op, x) {
                 return Ok(Value::Int { v });
             }
-            let y = int_of(&value(b, alloc, vars)?);
+            let y = int_of(&value(alloc, b, vars)?);
             or_kind(apply(*op, x, y))
         }
     }
 }
 
 /// The values in order, or the first trouble.
-pub fn values(es: &[Formula], alloc: Global, vars: &[Slot]) -> Result<Vec<Value>, Trouble>
+pub fn values(alloc: Global, es: &[Formula], vars: &[Slot]) -> Result<Vec<Value>, Trouble>
     ensures { FindsAll (values_of (all_placed_of es.now) vars.now) result }
 {
     let mut all = Vec::new(alloc);
     for e in es {
-        let v = value(e, alloc, vars)?;
-        if all.push(v).is_err() {
-            return Err(Trouble::NoMemory);
-        }
+        all.push(value(alloc, e, vars)?)?;
     }
     Ok(all)
 }
@@ -125,7 +116,7 @@ pub fn eval(alloc: Global, e: &Expr, vars: &Vars) -> Result<Value, TalkErr>
     ensures { Evaluates (value_of (placed vars.now.names (term_of e.now)) vars.now.slots) result }
 {
     let formula = Formula::of(alloc, e, vars.names())?;
-    match value(&formula, alloc, vars.slots()) {
+    match value(alloc, &formula, vars.slots()) {
         Ok(v) => Ok(v),
         Err(Trouble::Kind { kind }) => Err(TalkErr::Kind { kind }),
         Err(Trouble::Need { i: _, n, place }) => Err(TalkErr::Need { n, place }),

@@ -12,6 +12,8 @@ mod lines;
 mod question;
 mod slot;
 mod taken;
+#[cfg(test)]
+mod tests;
 mod vars;
 
 pub use error::{TalkErr, Trouble};

@@ -84,13 +84,19 @@ impl Vars {
         self.slots.as_slice()
     }
 
+    /// The kind of the variable of this name.
+    pub fn kind(&self, name: &[u8]) -> Option<VarKind>
+        ensures { result ≡ kind_named self.now name.now }
+    {
+        self.kinds.get(place_of(&self.names, name)).copied()
+    }
+
     fn slot(&self, name: &[u8]) -> Option<&Slot>
         ensures { option_copied result ≡ slot_named self.now name.now }
     {
-        let i = place_of(&self.names, name);
-        match self.kinds.get(i) {
-            Some(VarKind::Int) => self.slots.get(i),
-            Some(VarKind::Str) => self.slots.get(i),
+        match self.kind(name) {
+            Some(VarKind::Int) => self.slots.get(place_of(&self.names, name)),
+            Some(VarKind::Str) => self.slots.get(place_of(&self.names, name)),
             Some(VarKind::Handle) => None,
             None => None,
         }
