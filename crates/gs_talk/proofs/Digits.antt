@@ -1,5 +1,5 @@
 -- A number that is read digit by digit, and stands still at the greatest `u64`.
-use Rattle.std.proofs.Common.{◌≡◌, ◌∙◌, sym, ap, ℕ, suc, ◌+◌, ◌*◌, ◌-◌, ◌^◌, ◌<◌, min, refl, List, [], ◌∷◌, arith, Bool, true, false, cond, take, drop, drop-cons, get_or, length, add-one}
+use Rattle.std.proofs.Common.{◌≡◌, ◌∙◌, sym, ap, ℕ, suc, ◌+◌, ◌*◌, ◌-◌, ◌^◌, ◌<◌, min, List, [], ◌∷◌, arith, Bool, true, false, cond, take, drop, drop-cons, get_or, length, add-one}
 use Rattle.std.specs.Prelude.{fold}
 use Rattle.std.specs.List.{take_while, prefix_len}
 use Rattle.gs_talk.specs.Values.{is_digit}

@@ -1,5 +1,5 @@
 -- The bytes of a line, and those of a string.
-use Rattle.std.proofs.Common.{◌≡◌, ◌∙◌, sym, ap, ℕ, suc, ◌+◌, ◌<◌, refl, Bool, true, false, not, ◌&&◌, ◌||◌, List, [], ◌∷◌, length, take, arith, cond, Result, Ok, Err, le-leb, nat_le, if◌then◌else◌}
+use Rattle.std.proofs.Common.{◌≡◌, ◌∙◌, sym, ap, ℕ, suc, ◌+◌, refl, Bool, true, false, not, ◌&&◌, ◌||◌, List, [], ◌∷◌, length, take, arith, cond, Result, Ok, Err, le-leb, nat_le, if◌then◌else◌}
 use Rattle.std.specs.Prelude.{◌==◌}
 use Rattle.std.specs.List.{list_all, take_while, prefix_len}
 use Rattle.gs_types.specs.declared.limits.TheConstants.{STRING_LIMIT}

@@ -1,5 +1,5 @@
 -- A format that is read and written from its front on.
-use Rattle.std.proofs.Common.{◌≡◌, ◌≢◌, ◌∙◌, sym, ap, ℕ, suc, ◌-◌, ◌<◌, refl, Bool, false, List, [], ◌∷◌, ◌++◌, length, take, drop, get_or, Option, Some, None, arith, ne_eqb, cond}
+use Rattle.std.proofs.Common.{◌≡◌, ◌≢◌, ◌∙◌, sym, ap, ℕ, ◌-◌, ◌<◌, refl, Bool, List, [], ◌∷◌, ◌++◌, length, take, drop, get_or, Option, Some, None, arith, ne_eqb}
 use Rattle.std.specs.Prelude.{option_map, if◌then◌else◌, ◌==◌}
 use Rattle.std.proofs.lemmas.List.{take_all}
 use Rattle.gs_tree.specs.Formats.{Piece, literally, percent_d, percent_s, pieces}

@@ -1,5 +1,5 @@
 -- What the code reads of a format.
-use Rattle.std.specs.Prelude.{◌≡◌, ◌<◌, ℕ, List, [], ◌∷◌, length, Option, None, option_map}
+use Rattle.std.specs.Prelude.{◌≡◌, ◌<◌, ℕ, List, [], ◌∷◌, length, None, option_map}
 use Rattle.gs_tree.specs.Formats.{Piece, literally, percent_d, percent_s, pieces}
 use Rattle.gs_talk.specs.declared.formats.Piece as code
 use Rattle.gs_talk.specs.declared.formats.Piece.TheVariants as piece

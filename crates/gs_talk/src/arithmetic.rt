@@ -75,20 +75,8 @@ pub(crate) fn decided(op: Op, a: i64) -> Option<i64>
     ensures { result ≡ decided op a }
 {
     match op {
-        Op::Or => {
-            if is_zero(a) {
-                None
-            } else {
-                Some(1)
-            }
-        }
-        Op::And => {
-            if is_zero(a) {
-                Some(0)
-            } else {
-                None
-            }
-        }
+        Op::Or => { if is_zero(a) { None } else { Some(1) } }
+        Op::And => { if is_zero(a) { Some(0) } else { None } }
         Op::Eq => None,
         Op::Ne => None,
         Op::Lt => None,

@@ -2,7 +2,7 @@
 
 use crate::arithmetic::order_of;
 use crate::atoi::atoi;
-use crate::{Formula, Line, TalkErr, Trouble, Vars, eval, format, formulas, line, value, values};
+use crate::{Formula, Line, TalkErr, Vars, eval, format, formulas, line, value, values};
 use gs_tree::{Expr, Format, Ident, Op, Tree, Var, VarKind};
 use gs_types::{FaultKind, NoMemory, Text, Value};
 use std::alloc::{AllocError, Global};
@@ -87,7 +87,12 @@ fn operators_at_their_edges(rt: HostRuntime) -> Result<(), Fail> {
         (Op::Add, i64::MAX, 1, fault(FaultKind::Overflow)),
         (Op::Sub, i64::MIN, 1, fault(FaultKind::Overflow)),
         (Op::Mul, i64::MIN, -1, fault(FaultKind::Overflow)),
-        (Op::Mul, 3_037_000_500, 3_037_000_500, fault(FaultKind::Overflow)),
+        (
+            Op::Mul,
+            3_037_000_500,
+            3_037_000_500,
+            fault(FaultKind::Overflow),
+        ),
         (Op::Div, -7, 2, Ok(-3)),
         (Op::Div, 7, 0, fault(FaultKind::ZeroDivisor)),
         (Op::Div, i64::MIN, -1, fault(FaultKind::Overflow)),
@@ -198,9 +203,9 @@ fn expressions_by_places(rt: HostRuntime) -> Result<(), Fail> {
     let negative = Formula::Neg {
         e: Box::new(alloc, Formula::Num { v: 4 })?,
     };
-    assert!(rt; matches!(value(alloc, &negative, &[]), Ok(Value::Int { v: -4 })));
-    let none: Result<Vec<Value>, Trouble> = values(alloc, &[], &[]);
-    assert!(rt; matches!(none, Ok(vs) if vs.is_empty()));
+    let four = value(alloc, &negative, &[])?;
+    assert!(rt; matches!(&four, Value::Int { v: -4 }));
+    assert!(rt; values(alloc, &[], &[])?.is_empty());
     Ok(())
 }
 

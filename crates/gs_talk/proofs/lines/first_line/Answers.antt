@@ -1,4 +1,4 @@
-use Rattle.std.proofs.Common.{◌≡◌, ◌∙◌, ap, ℕ, take, true}
+use Rattle.std.proofs.Common.{◌∙◌, ap, ℕ, take}
 use Rattle.std.specs.List.{list_all}
 use Rattle.gs_talk.proofs.LineBytes.{in_line, taken_pass}
 use Rattle.gs_talk.proofs.lines.first_line.Goals as goal
