@@ -34,9 +34,9 @@ Evaluates r (Err (err.Need n place)) = (i : ℕ) × (r ≡ Err (Need i n place))
 Evaluates r (Err err.NoMemory) = ⊤
 
 -- the line, or the end, or the fault; a line waits for no task
-abbrev pub Takes : Result Taken FaultKind → Result Line TalkErr → Type 0
-Takes r (Ok line.End) = r ≡ Ok no_more
-Takes r (Ok (line.Got s next)) = r ≡ Ok (got s next)
-Takes r (Err (err.Kind kind)) = r ≡ Err kind
-Takes r (Err (err.Need n place)) = ⊥
-Takes r (Err err.NoMemory) = ⊤
+abbrev pub TakesLine : Result Taken FaultKind → Result Line TalkErr → Type 0
+TakesLine r (Ok line.End) = r ≡ Ok no_more
+TakesLine r (Ok (line.Got s next)) = r ≡ Ok (got s next)
+TakesLine r (Err (err.Kind kind)) = r ≡ Err kind
+TakesLine r (Err (err.Need n place)) = ⊥
+TakesLine r (Err err.NoMemory) = ⊤

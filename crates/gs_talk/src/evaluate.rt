@@ -14,7 +14,7 @@ use gs_types::{FaultKind, Value};
 use std::alloc::Global;
 
 /// The number; 0 for another value.
-pub(crate) fn int_of(v: &Value) -> i64
+pub fn int_of(v: &Value) -> i64
     ensures { result ≡ int_of v.now }
 {
     match v {
@@ -25,7 +25,7 @@ pub(crate) fn int_of(v: &Value) -> i64
 }
 
 /// The string; no bytes for another value.
-pub(crate) fn text_of(v: &Value) -> &[u8]
+pub fn text_of(v: &Value) -> &[u8]
     ensures { result.now ≡ text_of v.now }
 {
     match v {

@@ -1,8 +1,7 @@
 // What formats give.
-ghost use Rattle.std.specs.Prelude.{◌≡◌, ◌<◌, ◌∷◌, ◌++◌, List, length, slice_index, OnOk, IfOk};
-ghost use Rattle.gs_tree.specs.Formats.{Piece as Part};
-ghost use Rattle.gs_talk.specs.Texts.{signed_decimal, rendered, formatted};
-ghost use Rattle.gs_talk.specs.Pieces.{part_of, Begins};
+ghost use Rattle.std.specs.Prelude.{◌≡◌, ◌<◌, ◌++◌, length, slice_index, OnOk, IfOk};
+ghost use Rattle.gs_talk.specs.Texts.{signed_decimal, formatted};
+ghost use Rattle.gs_talk.specs.Pieces.{Begins, Puts};
 
 use crate::evaluate::{int_of, text_of};
 use gs_tree::Format;
@@ -81,8 +80,7 @@ fn put_piece<'a>(
     values: &'a [Value],
     out: &mut Vec<u8>,
 ) -> Result<&'a [Value], NoMemory>
-    ensures { IfOk result (λ left. (more : List Part) →
-        out.new.items ++ rendered more left.now ≡ out.old.items ++ rendered (part_of piece ∷ more) values.now) }
+    ensures { IfOk result (λ left. Puts piece values.now left.now out.old.items out.new.items) }
 {
     match (piece, values) {
         (Piece::Byte { byte }, _) => {

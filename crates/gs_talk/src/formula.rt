@@ -99,7 +99,8 @@ fn literal(alloc: Global, bytes: &[u8]) -> Result<Formula, NoMemory>
 
 /// Several expressions, in order. `NoMemory` as for one.
 pub fn formulas(alloc: Global, es: &[Expr], names: &[Blob]) -> Result<Vec<Formula>, NoMemory>
-    ensures { IfOk result (λ fs. all_placed_of fs.items ≡ all_placed names.now (map term_of es.now)) }
+    ensures { IfOk result (λ fs.
+        all_placed_of fs.items ≡ all_placed names.now (map term_of es.now)) }
 {
     let mut all = Vec::new(alloc);
     for e in es {

@@ -17,11 +17,11 @@ mod tests;
 mod vars;
 
 pub use error::{TalkErr, Trouble};
-pub use evaluate::{eval, value, values};
+pub use evaluate::{eval, int_of, text_of, value, values};
 pub use formats::{format, format_bytes};
 pub use formula::{Formula, formulas, place_of};
 pub use lines::line;
 pub use question::{Answer, CallArg, Question};
 pub use slot::Slot;
 pub use taken::Line;
-pub use vars::Vars;
+pub use vars::{Vars, first_slot};

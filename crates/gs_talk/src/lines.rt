@@ -2,7 +2,7 @@
 ghost use Rattle.std.specs.Prelude.{◌≡◌, ◌==◌, not, true};
 ghost use Rattle.std.specs.List.{prefix_len, take_while, list_all};
 ghost use Rattle.gs_talk.specs.Texts.{taken_line, read_line_at};
-ghost use Rattle.gs_talk.specs.Found.{Takes};
+ghost use Rattle.gs_talk.specs.Found.{TakesLine};
 
 use crate::{Line, TalkErr};
 use gs_types::{FaultKind, Text, TextErr};
@@ -30,7 +30,7 @@ fn first_line(bytes: &[u8]) -> &[u8]
 
 fn taken(alloc: Global, line: &[u8], next: usize) -> Result<Line, TalkErr>
     requires { list_all (λ b. not (b == 10)) line.now ≡ true }
-    ensures { Takes (taken_line line.now next) result }
+    ensures { TakesLine (taken_line line.now next) result }
 {
     match Text::read(alloc, line) {
         Ok(s) => Ok(Line::Got { s, next }),
@@ -48,7 +48,7 @@ fn taken(alloc: Global, line: &[u8], next: usize) -> Result<Line, TalkErr>
 /// than 9, 13 and 32 to 126.
 #[tactic(auto, unfolding(crate::specs::Texts::read_line_at))]
 pub fn line(alloc: Global, bytes: &[u8], at: usize) -> Result<Line, TalkErr>
-    ensures { Takes (read_line_at bytes.now at) result }
+    ensures { TakesLine (read_line_at bytes.now at) result }
 {
     if bytes.len() <= at {
         return Ok(Line::End);

@@ -84,7 +84,7 @@ impl Vars {
         self.slots.as_slice()
     }
 
-    /// The kind of the variable of this name.
+    /// The kind of the variable of this name. None exactly where none is declared.
     pub fn kind(&self, name: &[u8]) -> Option<VarKind>
         ensures { result ≡ kind_named self.now name.now }
     {
@@ -102,7 +102,8 @@ impl Vars {
         }
     }
 
-    /// The value of an int or string variable of this name, which is not pending.
+    /// The value of the variable of this name, which is not pending. None exactly where no int or string variable has
+    /// this name.
     pub fn get(&self, name: &[u8]) -> Option<&Value>
         requires { due_in (slot_named self.now name.now) ≡ None }
         ensures value { option_copied result ≡ held_in (slot_named self.now name.now) }
@@ -115,7 +116,7 @@ impl Vars {
         }
     }
 
-    /// The task and the place, from 1, that a variable of this name waits for.
+    /// The task and the place, from 1, that the variable of this name waits for. None exactly where it is not pending.
     pub fn pending(&self, name: &[u8]) -> Option<(u32, u8)>
         ensures { result ≡ due_in (slot_named self.now name.now) }
     {
