@@ -1,0 +1,12 @@
+pub mod Terms
+pub mod Values
+pub mod Texts
+pub mod Talk
+pub mod Seq
+pub mod Actions
+pub mod Passed
+pub mod Laws
+pub mod View
+pub mod Found
+pub mod Pieces
+pub mod Variables
