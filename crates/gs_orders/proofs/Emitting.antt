@@ -163,6 +163,14 @@ wrote_first sc old mid new here later next i first a lt is k1 w1 k2 w2 = λ orde
     subst (λ (xs : List Assign). SaysFirst sc orders here (map setting_of xs) next) (sym cons)
     (later, w2 orders (agrees_later (length old) (length mid) (length new) new orders k1.0 agrees), w1 orders (agrees_back (length old) mid new orders k2 agrees))
 
+-- the same, where the call that makes the first assignment is the last
+pub wrote_for_last : {E : Type 0} (sc : Scene) (old one_ two_ three four new : List Order) (r : Result ℕ E) (test_at next line then_at back : ℕ) (o : Order) (first step : Option Setting) (t : Option Term) (f : Formula) (body : Codes) →
+    Added old test_at o one_ → Kept one_ two_ → WroteMaybe sc one_ back step test_at two_ → Kept two_ three → WroteAll sc two_ then_at body back three → placed_of f ≡ placed sc.names (test_or_true t line) → four ≡ set three test_at (order.Test line f then_at next) →
+    OnOk r (Kept four new) → IfOk r (λ here. WroteMaybe sc four here first test_at new) → IfOk r (λ here. Wrote sc old here (for line first t step body) next new)
+wrote_for_last sc old one_ two_ three four new (Ok here) test_at next line then_at back o first step t f body h k1 w1 k2 w2 e is k4 w4 =
+    wrote_for sc old one_ two_ three four new here test_at next line then_at back o first step t f body h k1 w1 k2 w2 e is k4 w4
+wrote_for_last sc old one_ two_ three four new (Err e) test_at next line then_at back o first step t f body h k1 w1 k2 w2 same is k4 w4 = w4
+
 -- ---- the tree of the code
 
 pub code_block : (line : ℕ) (body : Vec Stmt Global) → code_of (stmt.Block line body) ≡ block line (codes_of body.items)

@@ -39,10 +39,7 @@ fn test_formula(
 {
     match e {
         None => Ok(Formula::Num { v: 1 }),
-        Some(e) => match Formula::of(alloc, e, names) {
-            Ok(f) => Ok(f),
-            Err(e) => Err(e),
-        },
+        Some(e) => Formula::of(alloc, e, names),
     }
 }
 
@@ -62,15 +59,9 @@ fn emit_test(
     ensures kept { OnOk result (Kept orders.old.items orders.new.items) }
     ensures says { IfOk result (λ here. WroteTest (scene names.now idl.now.ops) orders.old.items here line (term_of cond.now) (codes_of yes.now) no next orders.new.items) }
 {
-    let value = match Formula::of(alloc, cond, names) {
-        Ok(value) => value,
-        Err(e) => return Err(e),
-    };
-    let yes = match emit_all(yes, alloc, names, idl, next, orders) {
-        Ok(yes) => yes,
-        Err(e) => return Err(e),
-    };
-    match add(
+    let value = Formula::of(alloc, cond, names)?;
+    let yes = emit_all(yes, alloc, names, idl, next, orders)?;
+    add(
         orders,
         Order::Test {
             line,
@@ -78,10 +69,7 @@ fn emit_test(
             yes,
             no,
         },
-    ) {
-        Ok(here) => Ok(here),
-        Err(e) => Err(e),
-    }
+    )
 }
 
 // The statements of an `else`, where there is one.
@@ -99,10 +87,7 @@ fn emit_else(
 {
     match no {
         None => Ok(next),
-        Some(body) => match emit_all(body, alloc, names, idl, next, orders) {
-            Ok(here) => Ok(here),
-            Err(e) => Err(e),
-        },
+        Some(body) => emit_all(body, alloc, names, idl, next, orders),
     }
 }
 
@@ -121,18 +106,9 @@ fn emit_while(
     ensures kept { OnOk result (Kept orders.old.items orders.new.items) }
     ensures says { IfOk result (λ here. Wrote (scene names.now idl.now.ops) orders.old.items here (tree.while line (term_of cond.now) (codes_of body.now)) next orders.new.items) }
 {
-    let value = match Formula::of(alloc, cond, names) {
-        Ok(value) => value,
-        Err(e) => return Err(e),
-    };
-    let here = match add(orders, Order::Leave { line }) {
-        Ok(here) => here,
-        Err(e) => return Err(e),
-    };
-    let yes = match emit_all(body, alloc, names, idl, here, orders) {
-        Ok(yes) => yes,
-        Err(e) => return Err(e),
-    };
+    let value = Formula::of(alloc, cond, names)?;
+    let here = add(orders, Order::Leave { line })?;
+    let yes = emit_all(body, alloc, names, idl, here, orders)?;
     let test = Order::Test {
         line,
         value,
@@ -159,22 +135,10 @@ fn emit_for(
     ensures kept { OnOk result (Kept orders.old.items orders.new.items) }
     ensures says { IfOk result (λ here. Wrote (scene names.now idl.now.ops) orders.old.items here (tree.for line (option_map setting_of first.now) (option_map term_of cond.now) (option_map setting_of step.now) (codes_of body.now)) next orders.new.items) }
 {
-    let value = match test_formula(alloc, names, cond, line) {
-        Ok(value) => value,
-        Err(e) => return Err(e),
-    };
-    let test = match add(orders, Order::Leave { line }) {
-        Ok(test) => test,
-        Err(e) => return Err(e),
-    };
-    let back = match emit_maybe(step, alloc, names, idl, test, orders) {
-        Ok(back) => back,
-        Err(e) => return Err(e),
-    };
-    let yes = match emit_all(body, alloc, names, idl, back, orders) {
-        Ok(yes) => yes,
-        Err(e) => return Err(e),
-    };
+    let value = test_formula(alloc, names, cond, line)?;
+    let test = add(orders, Order::Leave { line })?;
+    let back = emit_maybe(step, alloc, names, idl, test, orders)?;
+    let yes = emit_all(body, alloc, names, idl, back, orders)?;
     let order = Order::Test {
         line,
         value,
@@ -182,10 +146,7 @@ fn emit_for(
         no: next,
     };
     write(orders, test, order);
-    match emit_maybe(first, alloc, names, idl, test, orders) {
-        Ok(here) => Ok(here),
-        Err(e) => Err(e),
-    }
+    emit_maybe(first, alloc, names, idl, test, orders)
 }
 
 #[cycle(emit)]
@@ -210,10 +171,7 @@ fn emit(
             yes,
             no,
         } => {
-            let no = match emit_else(no, alloc, names, idl, next, orders) {
-                Ok(no) => no,
-                Err(e) => return Err(e),
-            };
+            let no = emit_else(no, alloc, names, idl, next, orders)?;
             emit_test(yes, cond, *line, no, alloc, names, idl, next, orders)
         }
         Stmt::While { line, cond, body } => {
@@ -277,10 +235,7 @@ fn emit_all(
     let mut i = body.len();
     'back: while i > 0 {
         i -= 1;
-        here = match emit(&body[i], alloc, names, idl, here, orders) {
-            Ok(here) => here,
-            Err(e) => return Err(e),
-        };
+        here = emit(&body[i], alloc, names, idl, here, orders)?;
     }
     Ok(here)
 }
@@ -300,10 +255,7 @@ fn emit_first(
     let mut i = first.len();
     'back: while i > 0 {
         i -= 1;
-        here = match emit_set(&first[i], alloc, names, idl, here, orders) {
-            Ok(here) => here,
-            Err(e) => return Err(e),
-        };
+        here = emit_set(&first[i], alloc, names, idl, here, orders)?;
     }
     Ok(here)
 }
@@ -317,30 +269,19 @@ pub struct Orders {
 
 /// Makes the orders of a program whose variables have these names, in the order of their declaration: one for each
 /// assignment, test, call, print and the like, one for GS_On, and the last for GS_Off. The only error is want of memory.
-pub fn orders_of(
-    alloc: Global,
-    tree: &Tree,
-    idl: &Idl,
-    names: &[Blob],
-) -> Result<Orders, NoMemory>
+pub fn orders_of(alloc: Global, tree: &Tree, idl: &Idl, names: &[Blob]) -> Result<Orders, NoMemory>
     ensures { IfOk result (λ o. SaysProgram (scene names.now idl.now.ops) o.list.items o.start (program_of tree.now)) }
 {
     let mut list = Vec::new(alloc);
-    let off = match add(&mut list, Order::Leave { line: tree.off }) {
-        Ok(off) => off,
-        Err(e) => return Err(e),
-    };
-    let body = match emit_all(&tree.body, alloc, names, idl, off, &mut list) {
-        Ok(body) => body,
-        Err(e) => return Err(e),
-    };
-    let on = match add(&mut list, Order::Skip { line: 0, next: body }) {
-        Ok(on) => on,
-        Err(e) => return Err(e),
-    };
-    let start = match emit_first(&tree.first, alloc, names, idl, on, &mut list) {
-        Ok(start) => start,
-        Err(e) => return Err(e),
-    };
+    let off = add(&mut list, Order::Leave { line: tree.off })?;
+    let body = emit_all(&tree.body, alloc, names, idl, off, &mut list)?;
+    let on = add(
+        &mut list,
+        Order::Skip {
+            line: 0,
+            next: body,
+        },
+    )?;
+    let start = emit_first(&tree.first, alloc, names, idl, on, &mut list)?;
     Ok(Orders { start, list })
 }

@@ -5,6 +5,8 @@ mod emit;
 mod hand;
 mod order;
 mod plain;
+#[cfg(test)]
+mod tests;
 
 pub use emit::{Orders, orders_of};
 pub use hand::Handed;

@@ -19,10 +19,8 @@ pub(crate) fn add(orders: &mut Vec<Order>, o: Order) -> Result<usize, NoMemory>
     ensures { IfOk result (λ here. Added orders.old.items here o orders.new.items) }
 {
     let here = orders.len();
-    match orders.push(o) {
-        Ok(_) => Ok(here),
-        Err(_) => Err(NoMemory),
-    }
+    orders.push(o)?;
+    Ok(here)
 }
 
 pub(crate) fn emit_set(
@@ -36,12 +34,9 @@ pub(crate) fn emit_set(
     ensures kept { OnOk result (Kept orders.old.items orders.new.items) }
     ensures says { IfOk result (λ here. Wrote (scene names.now idl.now.ops) orders.old.items here (tree.set (setting_of a.now)) next orders.new.items) }
 {
-    let value = match Formula::of(alloc, &a.value, names) {
-        Ok(value) => value,
-        Err(e) => return Err(e),
-    };
+    let value = Formula::of(alloc, &a.value, names)?;
     let to = place_of(names, &a.to.name);
-    match add(
+    add(
         orders,
         Order::Set {
             line: a.to.line,
@@ -49,10 +44,7 @@ pub(crate) fn emit_set(
             value,
             next,
         },
-    ) {
-        Ok(here) => Ok(here),
-        Err(e) => Err(e),
-    }
+    )
 }
 
 pub(crate) fn emit_maybe(
@@ -86,12 +78,9 @@ pub(crate) fn emit_open(
     ensures kept { OnOk result (Kept orders.old.items orders.new.items) }
     ensures says { IfOk result (λ here. Wrote (scene names.now idl.now.ops) orders.old.items here (tree.open_file line (name_of to.now) (term_of path.now) mode) next orders.new.items) }
 {
-    let path = match Formula::of(alloc, path, names) {
-        Ok(path) => path,
-        Err(e) => return Err(e),
-    };
+    let path = Formula::of(alloc, path, names)?;
     let to = place_of(names, &to.name);
-    match add(
+    add(
         orders,
         Order::Open {
             line,
@@ -100,10 +89,7 @@ pub(crate) fn emit_open(
             mode,
             next,
         },
-    ) {
-        Ok(here) => Ok(here),
-        Err(e) => Err(e),
-    }
+    )
 }
 
 pub(crate) fn emit_read(
@@ -122,7 +108,7 @@ pub(crate) fn emit_read(
     let got = place_of(names, &got.name);
     let handle = place_of(names, &handle.name);
     let to = place_of(names, &to.name);
-    match add(
+    add(
         orders,
         Order::Read {
             line,
@@ -131,10 +117,7 @@ pub(crate) fn emit_read(
             to,
             next,
         },
-    ) {
-        Ok(here) => Ok(here),
-        Err(e) => Err(e),
-    }
+    )
 }
 
 pub(crate) fn emit_close(
@@ -149,10 +132,7 @@ pub(crate) fn emit_close(
     ensures says { IfOk result (λ here. Wrote (scene names.now idl.now.ops) orders.old.items here (tree.close_file line (name_of handle.now)) next orders.new.items) }
 {
     let handle = place_of(names, &handle.name);
-    match add(orders, Order::Close { line, handle, next }) {
-        Ok(here) => Ok(here),
-        Err(e) => Err(e),
-    }
+    add(orders, Order::Close { line, handle, next })
 }
 
 pub(crate) fn emit_wait(
@@ -165,10 +145,7 @@ pub(crate) fn emit_wait(
     ensures kept { OnOk result (Kept orders.old.items orders.new.items) }
     ensures says { IfOk result (λ here. Wrote (scene names.now idl.now.ops) orders.old.items here (tree.barrier line) next orders.new.items) }
 {
-    match add(orders, Order::Wait { line, next }) {
-        Ok(here) => Ok(here),
-        Err(e) => Err(e),
-    }
+    add(orders, Order::Wait { line, next })
 }
 
 pub(crate) fn emit_skip(
@@ -181,10 +158,7 @@ pub(crate) fn emit_skip(
     ensures kept { OnOk result (Kept orders.old.items orders.new.items) }
     ensures says { IfOk result (λ here. Wrote (scene names.now idl.now.ops) orders.old.items here (tree.empty line) next orders.new.items) }
 {
-    match add(orders, Order::Skip { line, next }) {
-        Ok(here) => Ok(here),
-        Err(e) => Err(e),
-    }
+    add(orders, Order::Skip { line, next })
 }
 
 pub(crate) fn emit_print(
@@ -200,15 +174,9 @@ pub(crate) fn emit_print(
     ensures kept { OnOk result (Kept orders.old.items orders.new.items) }
     ensures says { IfOk result (λ here. Wrote (scene names.now idl.now.ops) orders.old.items here (tree.print line (formatted_of format.now) (map term_of args.now)) next orders.new.items) }
 {
-    let args = match formulas(alloc, args, names) {
-        Ok(args) => args,
-        Err(e) => return Err(e),
-    };
-    let format = match Blob::copy(alloc, &format.s) {
-        Ok(format) => format,
-        Err(e) => return Err(e),
-    };
-    match add(
+    let args = formulas(alloc, args, names)?;
+    let format = Blob::copy(alloc, &format.s)?;
+    add(
         orders,
         Order::Print {
             line,
@@ -216,10 +184,7 @@ pub(crate) fn emit_print(
             args,
             next,
         },
-    ) {
-        Ok(here) => Ok(here),
-        Err(e) => Err(e),
-    }
+    )
 }
 
 pub(crate) fn emit_print_file(
@@ -236,16 +201,10 @@ pub(crate) fn emit_print_file(
     ensures kept { OnOk result (Kept orders.old.items orders.new.items) }
     ensures says { IfOk result (λ here. Wrote (scene names.now idl.now.ops) orders.old.items here (tree.print_file line (name_of handle.now) (formatted_of format.now) (map term_of args.now)) next orders.new.items) }
 {
-    let args = match formulas(alloc, args, names) {
-        Ok(args) => args,
-        Err(e) => return Err(e),
-    };
-    let format = match Blob::copy(alloc, &format.s) {
-        Ok(format) => format,
-        Err(e) => return Err(e),
-    };
+    let args = formulas(alloc, args, names)?;
+    let format = Blob::copy(alloc, &format.s)?;
     let handle = place_of(names, &handle.name);
-    match add(
+    add(
         orders,
         Order::PrintFile {
             line,
@@ -254,10 +213,7 @@ pub(crate) fn emit_print_file(
             args,
             next,
         },
-    ) {
-        Ok(here) => Ok(here),
-        Err(e) => Err(e),
-    }
+    )
 }
 
 pub(crate) fn emit_print_str(
@@ -274,16 +230,10 @@ pub(crate) fn emit_print_str(
     ensures kept { OnOk result (Kept orders.old.items orders.new.items) }
     ensures says { IfOk result (λ here. Wrote (scene names.now idl.now.ops) orders.old.items here (tree.print_str line (name_of to.now) (formatted_of format.now) (map term_of args.now)) next orders.new.items) }
 {
-    let args = match formulas(alloc, args, names) {
-        Ok(args) => args,
-        Err(e) => return Err(e),
-    };
-    let format = match Blob::copy(alloc, &format.s) {
-        Ok(format) => format,
-        Err(e) => return Err(e),
-    };
+    let args = formulas(alloc, args, names)?;
+    let format = Blob::copy(alloc, &format.s)?;
     let to = place_of(names, &to.name);
-    match add(
+    add(
         orders,
         Order::PrintStr {
             line,
@@ -292,10 +242,7 @@ pub(crate) fn emit_print_str(
             args,
             next,
         },
-    ) {
-        Ok(here) => Ok(here),
-        Err(e) => Err(e),
-    }
+    )
 }
 
 pub(crate) fn emit_call(
@@ -315,11 +262,8 @@ pub(crate) fn emit_call(
         Some(op) => op,
         None => return Ok(next),
     };
-    let args = match hand_all(alloc, names, idl, op, args) {
-        Ok(args) => args,
-        Err(e) => return Err(e),
-    };
-    match add(
+    let args = hand_all(alloc, names, idl, op, args)?;
+    add(
         orders,
         Order::Call {
             line,
@@ -327,8 +271,5 @@ pub(crate) fn emit_call(
             args,
             next,
         },
-    ) {
-        Ok(here) => Ok(here),
-        Err(e) => Err(e),
-    }
+    )
 }

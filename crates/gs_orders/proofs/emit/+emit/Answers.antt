@@ -6,7 +6,7 @@ use Rattle.gs_tree.specs.declared.tree.Stmt.{Stmt}
 use Rattle.gs_orders.specs.Says.{Scene, scene}
 use Rattle.gs_orders.specs.Emitted.{Wrote, WroteAll, WroteTest}
 use Rattle.gs_orders.specs.declared.order.Order.TheVariants as order
-use Rattle.gs_orders.proofs.Emitting.{maybe_else, code_block, code_if, code_while, code_for, kept_then, kept_while, wrote_if_last, wrote_for}
+use Rattle.gs_orders.proofs.Emitting.{maybe_else, code_block, code_if, code_while, code_for, kept_then, kept_while, wrote_if_last, wrote_for_last}
 use Rattle.gs_orders.proofs.emit.+emit.Goals as goal
 
 pub emit-returns-in-Block-clause-says : goal.emit-returns-in-Block-clause-says
@@ -18,18 +18,18 @@ emit-returns-in-Block-clause-says t c =
     subst (λ (x : Code). IfOk c.emit_all.result (λ here. Wrote sc old here x c.args.next new)) (sym is)
     (subst (λ (xs : List Stmt). IfOk c.emit_all.result (λ here. WroteAll sc old here (codes_of xs) c.args.next new)) c.deref.ensures.value c.emit_all.ensures.says)
 
-pub emit-returns-in-Ok-clause-says : goal.emit-returns-in-Ok-clause-says
-emit-returns-in-Ok-clause-says t c =
+pub emit-returns-in_ok-no-in-If-clause-says : goal.emit-returns-in_ok-no-in-If-clause-says
+emit-returns-in_ok-no-in-If-clause-says t c =
     let sc = scene c.args.names.now c.args.idl.now.ops in
     let old = c.args.orders.now.items in
     let mid = c.emit_else.new.orders.items in
     let new = c.emit_test.new.orders.items in
     let x = c.in-If in
     let is : code_of c.args.s.now ≡ choose x.line (term_of x.cond) (codes_of x.yes.items) (maybe_else x.no) = ap code_of x.is ∙ code_if x.line x.cond x.yes x.no in
-    let test : IfOk c.emit_test.result (λ here. WroteTest sc mid here x.line (term_of x.cond) (codes_of x.yes.items) c.in-Ok.no c.args.next new) =
-    subst (λ (xs : List Stmt). IfOk c.emit_test.result (λ here. WroteTest sc mid here x.line (term_of x.cond) (codes_of xs) c.in-Ok.no c.args.next new)) c.deref-in-If.ensures.value c.emit_test.ensures.says in
+    let test : IfOk c.emit_test.result (λ here. WroteTest sc mid here x.line (term_of x.cond) (codes_of x.yes.items) c.in_ok-no-in-If.no c.args.next new) =
+    subst (λ (xs : List Stmt). IfOk c.emit_test.result (λ here. WroteTest sc mid here x.line (term_of x.cond) (codes_of xs) c.in_ok-no-in-If.no c.args.next new)) c.deref-in-If.ensures.value c.emit_test.ensures.says in
     subst (λ (x : Code). IfOk c.emit_test.result (λ here. Wrote sc old here x c.args.next new)) (sym is)
-    (wrote_if_last sc old mid new c.emit_test.result c.args.next x.line c.in-Ok.no (term_of x.cond) (codes_of x.yes.items) x.no c.in-Ok.ensures.kept c.in-Ok.ensures.says c.emit_test.ensures.kept test)
+    (wrote_if_last sc old mid new c.emit_test.result c.args.next x.line c.in_ok-no-in-If.no (term_of x.cond) (codes_of x.yes.items) x.no c.in_ok-no-in-If.ensures.kept c.in_ok-no-in-If.ensures.says c.emit_test.ensures.kept test)
 
 pub emit-returns-in-While-clause-says : goal.emit-returns-in-While-clause-says
 emit-returns-in-While-clause-says t c =
@@ -52,11 +52,10 @@ emit-returns-in-For-clause-says t c =
     subst (λ (y : Code). IfOk c.emit_for.result (λ here. Wrote sc old here y c.args.next new)) (sym is)
     (subst (λ (xs : List Stmt). IfOk c.emit_for.result (λ here. Wrote sc old here (made xs) c.args.next new)) c.deref-in-For.ensures.value c.emit_for.ensures.says)
 
-pub emit_for-returns-in-Ok-emit_maybe-2-clause-says : goal.emit_for-returns-in-Ok-emit_maybe-2-clause-says
-emit_for-returns-in-Ok-emit_maybe-2-clause-says t c =
-    let sc = scene c.args.names.now c.args.idl.now.ops in
-    wrote_for sc c.args.orders.now.items c.add.new.orders.items c.emit_maybe.new.orders.items c.emit_all.new.orders.items c.write.new.orders.items c.emit_maybe-2.new.orders.items
-    c.in-Ok-emit_maybe-2.here c.in-Ok-add.test c.args.next c.args.line c.in-Ok-emit_all.yes c.in-Ok-emit_maybe.back (order.Leave c.args.line)
-    (option_map setting_of c.args.first.now) (option_map setting_of c.args.step.now) (option_map term_of c.args.cond.now) c.in-Ok.value (codes_of c.args.body.now)
-    c.in-Ok-add.ensures c.in-Ok-emit_maybe.ensures.kept c.in-Ok-emit_maybe.ensures.says c.in-Ok-emit_all.ensures.kept c.in-Ok-emit_all.ensures.says
-    c.in-Ok.ensures c.write.ensures c.in-Ok-emit_maybe-2.ensures.kept c.in-Ok-emit_maybe-2.ensures.says
+pub emit_for-returns-clause-says : goal.emit_for-returns-clause-says
+emit_for-returns-clause-says t c =
+    wrote_for_last (scene c.args.names.now c.args.idl.now.ops) c.args.orders.now.items c.add.new.orders.items c.emit_maybe.new.orders.items c.emit_all.new.orders.items c.write.new.orders.items c.emit_maybe-2.new.orders.items
+    c.emit_maybe-2.result c.in_ok-test.test c.args.next c.args.line c.in_ok-yes.yes c.in_ok-back.back (order.Leave c.args.line)
+    (option_map setting_of c.args.first.now) (option_map setting_of c.args.step.now) (option_map term_of c.args.cond.now) c.in_ok-value.value (codes_of c.args.body.now)
+    c.in_ok-test.ensures c.in_ok-back.ensures.kept c.in_ok-back.ensures.says c.in_ok-yes.ensures.kept c.in_ok-yes.ensures.says
+    c.in_ok-value.ensures c.write.ensures c.emit_maybe-2.ensures.kept c.emit_maybe-2.ensures.says
