@@ -19,8 +19,8 @@ use Rattle.gs_talk.specs.Talk.{test_or_true}
 use Rattle.gs_talk.specs.View.{placed_of}
 use Rattle.gs_orders.specs.declared.order.Order.{Order}
 use Rattle.gs_orders.specs.declared.order.Order.TheVariants as order
-use Rattle.gs_orders.specs.Steps.{Step, step_of, step_at, test}
-use Rattle.gs_orders.specs.Says.{Scene, IsAt, Says, SaysAll, SaysElse, SaysFirst}
+use Rattle.gs_orders.specs.Steps.{step_of, test}
+use Rattle.gs_orders.specs.Says.{Scene, IsAt, SaysAll, SaysElse, SaysFirst}
 use Rattle.gs_orders.specs.Emitted.{Agrees, Kept, Added, Wrote, WroteAll, WroteMaybe, WroteFirst, WroteTest, WroteElseOf}
 
 get_front : (xs ys : List Order) (i : ℕ) → i < length xs → slice_get (xs ++ ys) i ≡ slice_get xs i

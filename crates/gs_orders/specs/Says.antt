@@ -1,7 +1,7 @@
 -- Where a list of orders says a program.
 use Rattle.std.specs.Prelude.{◌≡◌, ℕ, List, [], ◌∷◌, Option, Some, None}
 use Rattle.gs_idl.specs.Interface.{Signature, op_place, params_at}
-use Rattle.gs_tree.specs.Program.{Name, Term, Setting, Formatted, Passed, Code, empty, block, set, choose, while, for, open_file, read_line, close_file, barrier, print, print_file, print_str, call, Codes, none, one, MaybeCodes, without, otherwise, Program}
+use Rattle.gs_tree.specs.Program.{Name, Setting, Passed, Code, empty, block, set, choose, while, for, open_file, read_line, close_file, barrier, print, print_file, print_str, call, Codes, none, one, MaybeCodes, without, otherwise, Program}
 use Rattle.gs_talk.specs.Terms.{place_of, placed, all_placed}
 use Rattle.gs_talk.specs.Talk.{all_handed, test_or_true}
 use Rattle.gs_orders.specs.declared.order.Order.{Order}

@@ -3,10 +3,10 @@ use Rattle.std.specs.Option.{option_map}
 use Rattle.gs_tree.specs.Program.{Code, block, for, choose, while}
 use Rattle.gs_tree.specs.View.{setting_of, term_of, code_of, codes_of}
 use Rattle.gs_tree.specs.declared.tree.Stmt.{Stmt}
-use Rattle.gs_orders.specs.Says.{Scene, scene}
+use Rattle.gs_orders.specs.Says.{scene}
 use Rattle.gs_orders.specs.Emitted.{Wrote, WroteAll, WroteTest}
 use Rattle.gs_orders.specs.declared.order.Order.TheVariants as order
-use Rattle.gs_orders.proofs.Emitting.{maybe_else, code_block, code_if, code_while, code_for, kept_then, kept_while, wrote_if_last, wrote_for_last}
+use Rattle.gs_orders.proofs.Emitting.{maybe_else, code_block, code_if, code_while, code_for, wrote_if_last, wrote_for_last}
 use Rattle.gs_orders.proofs.emit.+emit.Goals as goal
 
 pub emit-returns-in-Block-clause-says : goal.emit-returns-in-Block-clause-says

@@ -1,4 +1,4 @@
-use Rattle.std.proofs.Common.{◌≡◌, ℕ, zero, drop, map, subst, arith}
+use Rattle.std.proofs.Common.{◌≡◌, ℕ, drop, map, subst, arith}
 use Rattle.gs_tree.specs.View.{setting_of}
 use Rattle.gs_orders.specs.Says.{scene}
 use Rattle.gs_orders.specs.Emitted.{WroteFirst}

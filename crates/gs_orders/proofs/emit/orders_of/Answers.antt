@@ -1,4 +1,4 @@
-use Rattle.std.proofs.Common.{◌≡◌, List, length, map, subst, refl}
+use Rattle.std.proofs.Common.{List, length, map, subst, refl}
 use Rattle.gs_tree.specs.declared.tree.Assign.{Assign}
 use Rattle.gs_tree.specs.declared.tree.Stmt.{Stmt}
 use Rattle.gs_tree.specs.View.{setting_of, codes_of}
