@@ -1,5 +1,5 @@
 -- Sums of counters.
-use Rattle.std.proofs.Common.{◌≡◌, ◌<◌, ◌≤◌, ◌+◌, ℕ, zero, suc, true, refl, List, [], ◌∷◌, length, arith, get_or, drop}
+use Rattle.std.proofs.Common.{◌≡◌, ◌<◌, ◌≤◌, ◌+◌, ◌++◌, ℕ, zero, suc, true, refl, List, [], ◌∷◌, length, arith, get_or, drop}
 use Rattle.std.specs.Prelude.{slice_set, slice_index}
 use Rattle.gs_broker.specs.Counts.{total}
 use Rattle.gs_broker.specs.Workers.{slots_at, takes_at, all_slots}
@@ -44,3 +44,10 @@ pub slots_item : (ws : List Worker) (i : ℕ) (d : Worker) → i < length ws →
 slots_item [] i d lt = absurd (omega arith)
 slots_item (w ∷ ws) zero d lt = refl
 slots_item (w ∷ ws) (suc i) d lt = slots_item ws i d (omega arith)
+
+-- the slots of the workers of a list with one more
+pub slots_push : (ws : List Worker) (w : Worker) (i n : ℕ) → ((u : ℕ) → slots_at ws u ≤ n) → w.slots ≤ n → slots_at (ws ++ w ∷ []) i ≤ n
+slots_push [] w zero n each le = le
+slots_push [] w (suc i) n each le = omega arith
+slots_push (x ∷ ws) w zero n each le = each 0
+slots_push (x ∷ ws) w (suc i) n each le = slots_push ws w i n (λ u. each (suc u)) le

@@ -1,5 +1,5 @@
 -- What a broker says, as plain functions.
-use Rattle.std.specs.Prelude.{◌≡◌, ℕ, ◌&&◌, nat_lt, nat_eq, Bool, false, List, Option, None, is_some, slice_index}
+use Rattle.std.specs.Prelude.{◌≡◌, ℕ, ◌&&◌, nat_lt, nat_eq, Bool, false, Option, None, is_some, slice_index}
 use Rattle.std.specs.HashMap.{get as line_at, spare}
 use Rattle.slab.specs.Slab.{get as flight_at}
 use Rattle.gs_broker.specs.Workers.{slots_at, takes_at}

@@ -7,6 +7,8 @@ mod counts;
 mod jobs;
 mod outcome;
 mod tasks;
+#[cfg(test)]
+mod tests;
 mod workers;
 
 pub use broker::Broker;

@@ -1,9 +1,12 @@
 // The list of workers.
-#![tactic(auto, unfolding(crate::specs::Listed::count_of, crate::specs::Listed::slots_of_list, crate::specs::Listed::takes_of_list, crate::specs::Listed::program_in))]
+#![tactic(auto, using(crate::proofs::Totals::slots_push), unfolding(crate::specs::Listed::count_of, crate::specs::Listed::slots_of_list, crate::specs::Listed::takes_of_list, crate::specs::Listed::program_in))]
 
 ghost use Rattle.std.specs.Prelude.{◌≡◌, ◌<◌, ◌≤◌, ◌+◌, ℕ, if◌then◌else◌, slice_index, slice_get, option_map, length, slice_set, true, Some};
 ghost use Rattle.gs_types.specs.declared.limits.TheConstants.{WORKER_LIMIT, SLOT_LIMIT};
 ghost use Rattle.gs_broker.specs.Workers.{slots_at, takes_at, program_of};
+
+use gs_types::NoMemory;
+use std::alloc::Global;
 
 /// A worker: its name, how many jobs it takes at once, its program, and whether it takes each operation.
 #[derive(Drop)]
@@ -48,9 +51,29 @@ fn program_of(workers: &[Worker], w: usize) -> &[u8]
 }
 
 impl Workers {
-    ghost use Rattle.std.specs.Prelude.{◌≡◌, ◌<◌, ◌≤◌, Some};
-    ghost use Rattle.gs_types.specs.declared.limits.TheConstants.{WORKER_LIMIT};
+    ghost use Rattle.std.specs.Prelude.{◌≡◌, ◌<◌, ◌≤◌, ◌++◌, ◌∷◌, [], length, OnOk, OnErr, Some};
+    ghost use Rattle.gs_types.specs.declared.limits.TheConstants.{WORKER_LIMIT, SLOT_LIMIT};
     ghost use Rattle.gs_broker.specs.Listed.{count_of, slots_of_list, takes_of_list, program_in};
+
+    // A list without workers, which takes no memory.
+    pub(crate) fn empty(alloc: Global) -> Workers
+        ensures { result.list.items ≡ [] }
+    {
+        Workers {
+            list: Vec::new(alloc),
+        }
+    }
+
+    // One worker more, behind the others. On want of memory the list stays.
+    pub(crate) fn push(&mut self, worker: Worker) -> Result<(), NoMemory>
+        requires few { length self.old.list.items < WORKER_LIMIT }
+        requires slots { worker.slots ≤ SLOT_LIMIT }
+        ensures ok { OnOk result (self.new.list.items ≡ self.old.list.items ++ worker ∷ []) }
+        ensures err { OnErr result (self.new.list.items ≡ self.old.list.items) }
+    {
+        self.list.push(worker)?;
+        Ok(())
+    }
 
     /// How many workers the list has, at most 64.
     pub fn count(&self) -> u32
