@@ -118,4 +118,12 @@ scan_chosen cost takes usable rs w few = here (scan_workers cost takes usable rs
   where
     here : (b : Option Pair) → Whole (IsListed cost takes usable rs) b → ((u i : ℕ) (r : Ready) → u < w → slice_get rs i ≡ Some r → takes u r.op ≡ true → usable u ≡ true → NotAfter b (pair_of cost u r)) → IsChosen cost takes usable rs (chosen b)
     here None all none = λ i u r at takes_it is. none u i r (few u r.op takes_it) at takes_it is
-    here (Some p) all best = (all.0, all.1, all.2, ap (λ (q : Pair). q.n) (sym all.5), all.3, all.4, λ j u s at takes_it is. ap (before (pair_of cost u s)) (sym all.5) ∙ best u j s (few u s.op takes_it) at takes_it is)
+    here (Some p) all best = record {
+      place = all.0;
+      task = all.1;
+      listed = all.2;
+      number = ap (λ (q : Pair). q.n) (sym all.5);
+      taken = all.3;
+      free = all.4;
+      least = λ j u s at takes_it is. ap (before (pair_of cost u s)) (sym all.5) ∙ best u j s (few u s.op takes_it) at takes_it is;
+    }

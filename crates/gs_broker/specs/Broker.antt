@@ -1,8 +1,9 @@
 -- What a broker says, as plain functions.
-use Rattle.std.specs.Prelude.{◌≡◌, ℕ, ◌&&◌, nat_lt, nat_eq, Bool, false, Option, None, is_some, slice_index}
+use Rattle.std.specs.Prelude.{◌≡◌, ◌≤◌, ◌+◌, ◌-◌, ◌==◌, if◌then◌else◌, true, Some, ℕ, ◌&&◌, nat_lt, nat_eq, Bool, false, Option, None, is_some, slice_index}
 use Rattle.std.specs.HashMap.{get as line_at, spare}
 use Rattle.slab.specs.Slab.{get as flight_at}
 use Rattle.gs_broker.specs.Workers.{slots_at, takes_at}
+use Rattle.gs_broker.specs.Counts.{is_on}
 use Rattle.gs_broker.specs.Tasks.{key_of, failures_of, worker_at}
 use Rattle.gs_broker.specs.declared.workers.Workers.{Workers}
 use Rattle.gs_broker.specs.Listed.{slots_of_list, takes_of_list}
@@ -79,3 +80,23 @@ pub record IsFresh (workers : Workers) (tries : ℕ) (b : Broker) : Type 0 where
   pub failures : (n : ℕ) → failures_in b n ≡ 0
   pub lapses : (w : ℕ) → lapses_in b w ≡ 0
   pub known : (n : ℕ) → is_known b n ≡ false
+
+-- task n is in flight on worker w, which has a slot less; nothing else was counted. It uses up at
+-- most one of the room, and none where the task was started before
+pub record IsStarted (n w : ℕ) (old new : Broker) : Type 0 where
+  pub workers : SameWorkers old new
+  pub jobs : (m : ℕ) → job_in new m ≡ (if n == m then Some w else job_in old m)
+  pub busy : (u : ℕ) → busy_in new u ≡ busy_in old u + is_on (Some w) u
+  pub failures : (m : ℕ) → failures_in new m ≡ failures_in old m
+  pub lapses : (u : ℕ) → lapses_in new u ≡ lapses_in old u
+  pub known : (m : ℕ) → is_known new m ≡ (if n == m then true else is_known old m)
+  pub spare : spare_in old ≤ spare_in new + 1
+  pub again : is_known old n ≡ true → spare_in old ≤ spare_in new
+
+-- task n is no longer in flight, and its worker has a slot more
+pub record IsEnded (n : ℕ) (old new : Broker) : Type 0 where
+  pub workers : SameWorkers old new
+  pub jobs : (m : ℕ) → job_in new m ≡ (if n == m then None else job_in old m)
+  pub busy : (u : ℕ) → busy_in new u ≡ busy_in old u - is_on (job_in old n) u
+  pub known : (m : ℕ) → is_known new m ≡ is_known old m
+  pub spare : spare_in old ≤ spare_in new

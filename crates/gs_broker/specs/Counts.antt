@@ -26,4 +26,5 @@ IsStranded takes lapses op = (w : ℕ) → takes w op ≡ true → WORKER_FAILUR
 -- whether one of the first workers takes the operation and has not failed too often
 abbrev pub has_live : (ℕ → ℕ → Bool) → (ℕ → ℕ) → ℕ → ℕ → Bool
 has_live takes lapses op zero = false
-has_live takes lapses op (suc w) = has_live takes lapses op w || (takes w op && nat_lt (lapses w) WORKER_FAILURES)
+has_live takes lapses op (suc w) =
+    has_live takes lapses op w || (takes w op && nat_lt (lapses w) WORKER_FAILURES)

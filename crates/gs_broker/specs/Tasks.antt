@@ -23,4 +23,5 @@ worker_at jobs n (Some k) = worker_of n (jobs k)
 
 -- whatever key another task has, it finds its job there as before
 abbrev pub OthersStay : ℕ → (ℕ → Option Flight) → (ℕ → Option Flight) → Type 0
-OthersStay n old new = (m : ℕ) → n ≢ m → (key : Option ℕ) → worker_at new m key ≡ worker_at old m key
+OthersStay n old new =
+    (m : ℕ) → n ≢ m → (key : Option ℕ) → worker_at new m key ≡ worker_at old m key

@@ -27,7 +27,8 @@ pub struct Broker {
     tasks: HashMap<u32, Line>,
     jobs: Slab<Flight>,
     tries: u32,
-    ghost same: { (length busy.items ≡ length workers.list.items) × (length lapses.items ≡ length workers.list.items) },
+    ghost same: { (length busy.items ≡ length workers.list.items) × (length lapses.items
+        ≡ length workers.list.items) },
     ghost within: { (w : ℕ) → slice_index busy.items w ≤ slots_at workers.list.items w },
     ghost counted: { slab_len jobs ≤ total busy.items },
     ghost room: { all_slots workers.list.items ≤ jobs.capacity },
@@ -38,13 +39,13 @@ impl Broker {
     ghost use Rattle.gs_broker.specs.Choice.{AreInRange, IsChosen};
     ghost use Rattle.gs_broker.specs.Counts.{is_on, most, IsStranded};
     ghost use Rattle.gs_broker.specs.Workers.{slots_at};
-    ghost use Rattle.gs_broker.specs.Broker.{slots_in, takes_in, tries_in, job_in, busy_in, failures_in, lapses_in, is_known, spare_in, usable_in, IsFresh, SameWorkers, SameJobs, workers_in};
+    ghost use Rattle.gs_broker.specs.Broker.{slots_in, takes_in, tries_in, job_in, busy_in, failures_in, lapses_in, is_known, spare_in, usable_in, IsFresh, SameWorkers, SameJobs, workers_in, IsStarted, IsEnded};
     ghost use Rattle.gs_broker.specs.Stranded.{IsLeastStranded};
     ghost use Rattle.gs_broker.specs.Outcome.{IsLoss};
     ghost use Rattle.gs_types.specs.declared.limits.TheConstants.{TRIES_LIMIT};
 
-    /// A broker of these workers: no job is in flight, nothing has failed, and a task is lost at its `tries`-th
-    /// failure.
+    /// A broker of these workers: no job is in flight, nothing has failed, and a task is lost at its
+    /// `tries`-th failure.
     pub fn new(alloc: Global, workers: Workers, tries: u32) -> Result<Broker, NoMemory>
         requires { (1 ≤ tries) × (tries ≤ TRIES_LIMIT) }
         ensures { IfOk result (IsFresh workers tries) }
@@ -80,20 +81,13 @@ impl Broker {
         &self.workers
     }
 
-    /// Task `n`, which is not in flight, is in flight on worker `w`, which has a free slot. It uses up at most one
-    /// of the room that `reserve` took, and none where the task was started before.
+    /// Task `n`, which is not in flight, starts on worker `w`, which has a free slot. It uses up at
+    /// most one of the room that `reserve` took, and none where the task was started before.
     pub fn started(&mut self, n: u32, w: u32)
         requires idle { job_in self.old n ≡ None }
         requires free { busy_in self.old w < slots_in self.old w }
         requires room { (0 < spare_in self.old) ⊎ (is_known self.old n ≡ true) }
-        ensures workers { SameWorkers self.old self.new }
-        ensures jobs { (m : ℕ) → job_in self.new m ≡ (if n == m then Some w else job_in self.old m) }
-        ensures busy { (u : ℕ) → busy_in self.new u ≡ busy_in self.old u + is_on (Some w) u }
-        ensures failures { (m : ℕ) → failures_in self.new m ≡ failures_in self.old m }
-        ensures lapses { (u : ℕ) → lapses_in self.new u ≡ lapses_in self.old u }
-        ensures known { (m : ℕ) → is_known self.new m ≡ (if n == m then true else is_known self.old m) }
-        ensures spare { spare_in self.old ≤ spare_in self.new + 1 }
-        ensures again { is_known self.old n ≡ true → spare_in self.old ≤ spare_in self.new }
+        ensures { IsStarted n w self.old self.new }
     {
         let failures = failures_at(&self.tasks, n);
         let key = put_in(&mut self.jobs, n, w);
@@ -112,13 +106,9 @@ impl Broker {
     /// Task `n`, which was in flight, has finished.
     pub fn finished(&mut self, n: u32)
         requires { IsSome (job_in self.old n) }
-        ensures workers { SameWorkers self.old self.new }
-        ensures jobs { (m : ℕ) → job_in self.new m ≡ (if n == m then None else job_in self.old m) }
-        ensures busy { (u : ℕ) → busy_in self.new u ≡ busy_in self.old u - is_on (job_in self.old n) u }
+        ensures ended { IsEnded n self.old self.new }
         ensures failures { (m : ℕ) → failures_in self.new m ≡ failures_in self.old m }
         ensures lapses { (u : ℕ) → lapses_in self.new u ≡ lapses_in self.old u }
-        ensures known { (m : ℕ) → is_known self.new m ≡ is_known self.old m }
-        ensures spare { spare_in self.old ≤ spare_in self.new }
     {
         let failures = failures_at(&self.tasks, n);
         let worker = take_out(&mut self.jobs, n, key_at(&self.tasks, n));
@@ -133,17 +123,15 @@ impl Broker {
         leave_slot(&mut self.busy, worker);
     }
 
-    /// Task `n`, which was in flight, has failed, and its worker with it. `Task` exactly where this is the
-    /// `tries`-th failure of the task.
+    /// Task `n`, which was in flight, has failed, and its worker with it. `Task` exactly where this
+    /// is the `tries`-th failure of the task.
     pub fn failed(&mut self, n: u32) -> Loss
         requires { IsSome (job_in self.old n) }
-        ensures workers { SameWorkers self.old self.new }
-        ensures jobs { (m : ℕ) → job_in self.new m ≡ (if n == m then None else job_in self.old m) }
-        ensures busy { (u : ℕ) → busy_in self.new u ≡ busy_in self.old u - is_on (job_in self.old n) u }
-        ensures failures { (m : ℕ) → failures_in self.new m ≡ (if n == m then min (failures_in self.old m + 1) most else failures_in self.old m) }
-        ensures lapses { (u op : ℕ) → takes_in self.old u op ≡ true → lapses_in self.new u ≡ min (lapses_in self.old u + is_on (job_in self.old n) u) most }
-        ensures known { (m : ℕ) → is_known self.new m ≡ is_known self.old m }
-        ensures spare { spare_in self.old ≤ spare_in self.new }
+        ensures ended { IsEnded n self.old self.new }
+        ensures failures { (m : ℕ) → failures_in self.new m ≡
+            (if n == m then min (failures_in self.old m + 1) most else failures_in self.old m) }
+        ensures lapses { (u op : ℕ) → takes_in self.old u op ≡ true →
+            lapses_in self.new u ≡ min (lapses_in self.old u + is_on (job_in self.old n) u) most }
         ensures loss { IsLoss (failures_in self.old n) (tries_in self.old) n result }
     {
         let failures = failures_at(&self.tasks, n);
@@ -161,7 +149,8 @@ impl Broker {
         loss_at(failures, self.tries, n)
     }
 
-    /// The least listed task all of whose workers have 5 or more failures; `None` exactly where there is none.
+    /// The least listed task all of whose workers have 5 or more failures; `None` exactly where there
+    /// is none.
     pub fn no_worker(&self, ready: &[Ready]) -> Option<u32>
         ensures { IsLeastStranded (IsStranded (takes_in self.now) (lapses_in self.now)) ready.now result }
     {
@@ -176,9 +165,9 @@ impl Broker {
         self.busy[w] < self.workers.slots(w) && self.lapses[w] < WORKER_FAILURES
     }
 
-    /// The listed task and the worker that takes it, has a free slot and fewer than 5 failures, that cost least
-    /// under the policy's law; ties go by the task's number, then by the worker's. `None` exactly where there is
-    /// no such pair. It asks for the costs of listed tasks on free usable workers alone.
+    /// The listed task and the worker that cost least under the policy's law, among workers that take
+    /// the task, have a free slot and fewer than 5 failures; ties go by the task's number, then by the
+    /// worker's. `None` exactly where there is no such pair. Costs are asked for at those pairs alone.
     pub fn pick<F: Prices, C: CostLaw>(
         &self,
         p: &Policy<F, C>,

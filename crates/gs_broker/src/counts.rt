@@ -37,7 +37,8 @@ pub(crate) fn leave_slot(busy: &mut Vec<usize>, worker: Option<u32>)
 
 // One failure more.
 pub(crate) fn add_lapse(lapses: &mut Vec<u32>, worker: Option<u32>)
-    ensures lapses { (u : ℕ) → u < length lapses.old.items → slice_index lapses.new.items u ≡ min (slice_index lapses.old.items u + is_on worker u) most }
+    ensures lapses { (u : ℕ) → u < length lapses.old.items → slice_index lapses.new.items u
+        ≡ min (slice_index lapses.old.items u + is_on worker u) most }
     ensures same { length lapses.new.items ≡ length lapses.old.items }
 {
     if let Some(w) = worker {

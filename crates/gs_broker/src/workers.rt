@@ -8,7 +8,7 @@ ghost use Rattle.gs_broker.specs.Workers.{slots_at, takes_at, program_of};
 use gs_types::NoMemory;
 use std::alloc::Global;
 
-/// A worker: its name, how many jobs it takes at once, its program, and whether it takes each operation.
+/// A worker: its name, how many jobs it takes at once, its program, and which operations it takes.
 #[derive(Drop)]
 pub(crate) struct Worker {
     pub name: Vec<u8>,

@@ -18,14 +18,16 @@ waits_in g m p = has m (after g.next.items p)
 
 -- the task has not finished, and its producers are all finished
 abbrev pub IsDue : (ℕ → ℕ → Bool) → (ℕ → Bool) → ℕ → ℕ → Type 0
-IsDue needs done count m = (m < count) × (done m ≡ false) × ((p : ℕ) → needs m p ≡ true → done p ≡ true)
+IsDue needs done count m =
+    (m < count) × (done m ≡ false) × ((p : ℕ) → needs m p ≡ true → done p ≡ true)
 
 -- the ready tasks by rising number
 unfoldable pub due_in : Counters → List ℕ
 due_in g = g.ready.items
 
 -- the list has exactly the ready tasks, by rising number
-pub record IsDueList (needs : ℕ → ℕ → Bool) (done : ℕ → Bool) (count : ℕ) (tasks : List ℕ) : Type 0 where
+pub record IsDueList
+    (needs : ℕ → ℕ → Bool) (done : ℕ → Bool) (count : ℕ) (tasks : List ℕ) : Type 0 where
   pub rising : rises 0 count tasks ≡ true
   pub sound : (m : ℕ) → has m tasks ≡ true → IsDue needs done count m
   pub full : (m : ℕ) → IsDue needs done count m → has m tasks ≡ true

@@ -40,7 +40,8 @@ pub record IsReady (needs : ℕ → ℕ → Bool) (done : ℕ → Bool) (count n
   pub produced : (p : ℕ) → needs n p ≡ true → done p ≡ true
 
 -- the list has exactly the ready tasks, by rising number
-pub record IsReadyList (needs : ℕ → ℕ → Bool) (done : ℕ → Bool) (count : ℕ) (tasks : List ℕ) : Type 0 where
+pub record IsReadyList
+    (needs : ℕ → ℕ → Bool) (done : ℕ → Bool) (count : ℕ) (tasks : List ℕ) : Type 0 where
   pub rising : rises 1 (suc count) tasks ≡ true
   pub sound : (n : ℕ) → has n tasks ≡ true → IsReady needs done count n
   pub full : (n : ℕ) → IsReady needs done count n → has n tasks ≡ true

@@ -23,9 +23,11 @@ pub(crate) struct Counters {
     alloc: Global,
     ghost same: { (length done.items ≡ length missing.items) × (length next.items ≡ length missing.items) },
     ghost later: { (p : ℕ) → all_below (length missing.items) (after next.items p) ≡ true },
-    ghost opened: { (m : ℕ) → m < length missing.items → slice_index missing.items m ≡ open_of (after next.items) (done_at done.items) m (length missing.items) },
+    ghost opened: { (m : ℕ) → m < length missing.items → slice_index missing.items m
+        ≡ open_of (after next.items) (done_at done.items) m (length missing.items) },
     ghost rising: { rises 0 (length missing.items) ready.items ≡ true },
-    ghost listed: { (m : ℕ) → has m ready.items ≡ is_due (length missing.items) (done_at done.items) (slice_index missing.items) m },
+    ghost listed: { (m : ℕ) → has m ready.items
+        ≡ is_due (length missing.items) (done_at done.items) (slice_index missing.items) m },
     ghost room: { length missing.items ≤ vec_capacity ready },
 }
 
@@ -55,8 +57,10 @@ impl Counters {
         ensures count { OnOk result (size_in self.new ≡ size_in self.old + 1) }
         ensures done { (m : ℕ) → ended_in self.new m ≡ ended_in self.old m }
         ensures fresh { OnOk result (ended_in self.new (size_in self.old) ≡ false) }
-        ensures needs { OnOk result ((m p : ℕ) → waits_in self.new m p ≡ (if size_in self.old == m then has p producers.now else waits_in self.old m p)) }
-        ensures same { OnErr result ((size_in self.new ≡ size_in self.old) × ((m p : ℕ) → waits_in self.new m p ≡ waits_in self.old m p)) }
+        ensures needs { OnOk result ((m p : ℕ) → waits_in self.new m p
+            ≡ (if size_in self.old == m then has p producers.now else waits_in self.old m p)) }
+        ensures same { OnErr result ((size_in self.new ≡ size_in self.old) × ((m p : ℕ) →
+            waits_in self.new m p ≡ waits_in self.old m p)) }
         ensures list { OnErr result (due_in self.new ≡ due_in self.old) }
     {
         let n = self.missing.len();
@@ -94,7 +98,7 @@ impl Counters {
         );
     }
 
-    /// The `i`-th task, by rising number, that has not finished and whose producers are all finished.
+    /// The `i`-th of the tasks that may run, by rising number.
     pub(crate) fn ready_at(&self, i: usize) -> Option<usize>
         ensures item { result ≡ slice_get (due_in self.now) i }
         ensures list { IsDueList (waits_in self.now) (ended_in self.now) (size_in self.now) (due_in self.now) }

@@ -26,7 +26,8 @@ pub(crate) fn reserve_edge(
 pub(crate) fn push_edge(next: &mut Vec<Vec<usize>>, p: usize, n: usize)
     requires within { p < length next.old.items }
     requires room { 0 < room_of next.old.items p }
-    ensures edges { (q : ℕ) → after next.new.items q ≡ (if p == q then after next.old.items q ++ n ∷ [] else after next.old.items q) }
+    ensures edges { (q : ℕ) → after next.new.items q
+        ≡ (if p == q then after next.old.items q ++ n ∷ [] else after next.old.items q) }
     ensures len { length next.new.items ≡ length next.old.items }
     ensures room { (q : ℕ) → room_of next.old.items q ≤ room_of next.new.items q + one_if (p == q) }
     ensures capacity { vec_capacity next.old ≤ vec_capacity next.new }

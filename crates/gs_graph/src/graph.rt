@@ -48,8 +48,8 @@ impl Graph {
         }
     }
 
-    /// Adds task `n`, one more than the last, with its producers, which are earlier tasks. On want of memory
-    /// nothing changes.
+    /// Adds task `n`, one more than the last, with its producers, which are earlier tasks. On want of
+    /// memory nothing changes.
     pub fn add(&mut self, n: u32, producers: &[u32]) -> Result<(), NoMemory>
         requires next { n ≡ count_in self.old + 1 }
         requires earlier { All (λ p. (0 < p) × (p < n)) producers.now }
@@ -77,8 +77,8 @@ impl Graph {
         self.counters.finish(n as usize - 1);
     }
 
-    /// The `i`-th, from 0, by rising number, of the tasks that have not finished and whose producers are all
-    /// finished. `None` exactly past the last of them.
+    /// The `i`-th, from 0, by rising number, of the tasks that have not finished and whose producers
+    /// are all finished. `None` exactly past the last of them.
     pub fn ready_at(&self, i: u32) -> Option<u32>
         ensures item { result ≡ slice_get (ready_in self.now) i }
         ensures list { IsReadyList (needs_in self.now) (done_in self.now) (count_in self.now) (ready_in self.now) }
@@ -89,7 +89,7 @@ impl Graph {
         }
     }
 
-    /// Notes an action behind the others. On want of memory nothing changes but that the action is dropped.
+    /// Notes an action behind the others. On want of memory nothing changes.
     pub fn note(&mut self, a: Action) -> Result<(), NoMemory>
         ensures ok { OnOk result (actions_in self.new ≡ actions_in self.old ++ a ∷ []) }
         ensures err { OnErr result (actions_in self.new ≡ actions_in self.old) }

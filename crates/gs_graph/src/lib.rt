@@ -1,4 +1,4 @@
-//! Which tasks wait for which: the tasks that may run, and the actions of the main program in order.
+//! Which tasks wait for which, which may run, and the actions of the main program in order.
 #![tactic(auto)]
 
 mod counters;

@@ -25,7 +25,8 @@ pub(crate) fn is_done(done: &[bool], m: usize) -> bool
 fn take_one(missing: &mut Vec<usize>, s: usize)
     requires within { s < length missing.old.items }
     requires some { 0 < slice_index missing.old.items s }
-    ensures counts { (m : ℕ) → slice_index missing.new.items m + one_if (s == m) ≡ slice_index missing.old.items m }
+    ensures counts { (m : ℕ) → slice_index missing.new.items m + one_if (s == m)
+        ≡ slice_index missing.old.items m }
     ensures len { length missing.new.items ≡ length missing.old.items }
 {
     missing[s] -= 1;
@@ -53,12 +54,15 @@ fn lower(missing: &mut Vec<usize>, done: &[bool], ready: &mut Vec<usize>, s: usi
     requires within { s < length missing.old.items }
     requires some { 0 < slice_index missing.old.items s }
     requires rising { rises 0 (length missing.old.items) ready.old.items ≡ true }
-    requires listed { (m : ℕ) → has m ready.old.items ≡ is_due (length missing.old.items) (done_at done.now) (slice_index missing.old.items) m }
+    requires listed { (m : ℕ) → has m ready.old.items
+        ≡ is_due (length missing.old.items) (done_at done.now) (slice_index missing.old.items) m }
     requires room { length missing.old.items ≤ vec_capacity ready.old }
-    ensures counts { (m : ℕ) → slice_index missing.new.items m + one_if (s == m) ≡ slice_index missing.old.items m }
+    ensures counts { (m : ℕ) → slice_index missing.new.items m + one_if (s == m)
+        ≡ slice_index missing.old.items m }
     ensures len { length missing.new.items ≡ length missing.old.items }
     ensures rising { rises 0 (length missing.old.items) ready.new.items ≡ true }
-    ensures listed { (m : ℕ) → has m ready.new.items ≡ is_due (length missing.old.items) (done_at done.now) (slice_index missing.new.items) m }
+    ensures listed { (m : ℕ) → has m ready.new.items
+        ≡ is_due (length missing.old.items) (done_at done.now) (slice_index missing.new.items) m }
     ensures room { length missing.old.items ≤ vec_capacity ready.new }
 {
     take_one(missing, s);
@@ -75,12 +79,15 @@ pub(crate) fn lower_all(
     requires within { all_below (length missing.old.items) next.now ≡ true }
     requires enough { (m : ℕ) → count_of m next.now ≤ slice_index missing.old.items m }
     requires rising { rises 0 (length missing.old.items) ready.old.items ≡ true }
-    requires listed { (m : ℕ) → has m ready.old.items ≡ is_due (length missing.old.items) (done_at done.now) (slice_index missing.old.items) m }
+    requires listed { (m : ℕ) → has m ready.old.items
+        ≡ is_due (length missing.old.items) (done_at done.now) (slice_index missing.old.items) m }
     requires room { length missing.old.items ≤ vec_capacity ready.old }
-    ensures counts { (m : ℕ) → slice_index missing.new.items m + count_of m next.now ≡ slice_index missing.old.items m }
+    ensures counts { (m : ℕ) → slice_index missing.new.items m + count_of m next.now
+        ≡ slice_index missing.old.items m }
     ensures len { length missing.new.items ≡ length missing.old.items }
     ensures rising { rises 0 (length missing.old.items) ready.new.items ≡ true }
-    ensures listed { (m : ℕ) → has m ready.new.items ≡ is_due (length missing.old.items) (done_at done.now) (slice_index missing.new.items) m }
+    ensures listed { (m : ℕ) → has m ready.new.items
+        ≡ is_due (length missing.old.items) (done_at done.now) (slice_index missing.new.items) m }
     ensures room { length missing.old.items ≤ vec_capacity ready.new }
 {
     for s in next {

@@ -28,8 +28,8 @@ abbrev pub first_written : List Write → List (List ℕ)
 first_written [] = []
 first_written (w ∷ ws) = with_name (first_written ws) w.0
 
--- the written names in the order of their first writing, each with its last version: a name that was written
--- keeps its place and takes the version, a new one goes last
+-- the written names in the order of their first writing, each with its last version: a name that
+-- was written keeps its place and takes the version, a new one goes last
 abbrev pub finals_of : List Write → List Write
 finals_of [] = []
 finals_of (w ∷ ws) = insert_entry bytes_eq (finals_of ws) w.0 w.1

@@ -10,7 +10,7 @@ use indexmap::{IndexMap, IndexSet};
 use std::alloc::Global;
 use std::snapshot::Snapshot;
 
-/// Names with their numbers, from 0 in the order of first numbering, and the versions that they were given.
+/// Names with their numbers, from 0 in the order of first numbering, and their versions.
 #[derive(Drop)]
 pub struct NameTable {
     names: IndexSet<Name>,
@@ -53,7 +53,8 @@ impl NameTable {
         }
     }
 
-    /// The name's number: its own where it has one, else the next. On want of memory nothing changes.
+    /// The name's number: its own where it has one, else the next. On want of memory nothing
+    /// changes.
     pub fn number(&mut self, name: Name) -> Result<u32, NoMemory>
         requires { length (names_in self.old) < 2 ^ 32 - 1 }
         ensures names { OnOk result (names_in self.new ≡ with_name (names_in self.old) name) }

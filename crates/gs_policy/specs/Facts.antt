@@ -1,4 +1,4 @@
--- What a policy keeps of its closure: `may` says where it may be called, `gives` what it answers there.
+-- What a policy keeps of its closure: `may` says where it may be called, `gives` what it answers.
 use Rattle.std.specs.Prelude.{◌≡◌, ℕ}
 use Rattle.gs_policy.specs.Cost.{Cost, IsInRange}
 use mathlib.Core.HLevel.{Π_prop}

@@ -2,7 +2,8 @@
 ghost use Rattle.std.specs.Prelude.{ℕ, ◌≤◌};
 ghost use Rattle.gs_policy.specs.Cost.{Cost, IsLimited};
 
-/// A law of costs: what each operation costs on each worker over so many bytes, at most `COST_LIMIT`.
+/// A law of costs: what each operation costs on each worker over so many bytes. No cost passes
+/// `COST_LIMIT`.
 pub trait CostLaw {
     ghost cost: { Self → Cost };
 

@@ -39,8 +39,8 @@ pub struct Policy<F: Prices, C: CostLaw> {
 }
 
 impl<F: Prices, C: CostLaw> Policy<F, C> {
-    /// The policy of a closure that may be called with each operation below 64, each worker below 64 and at
-    /// most 268,435,456 bytes, and that answers the law's cost there.
+    /// The policy of a closure that may be called with each operation below 64, each worker below 64
+    /// and at most 268,435,456 bytes, and that answers the law's cost there.
     pub fn new(f: F, law: &C) -> Policy<F, C>
         requires facts { AreFacts (F.may f) }
         requires callable { IsCallable (F.may f) }
@@ -53,7 +53,7 @@ impl<F: Prices, C: CostLaw> Policy<F, C> {
         }
     }
 
-    /// What the operation costs on the worker over so many bytes: the law's cost, at most `COST_LIMIT`.
+    /// What the operation costs on the worker over so many bytes: the law's cost.
     pub fn cost(&self, op: u32, worker: u32, bytes: u64) -> u64
         requires { IsInRange op worker bytes }
         ensures cost { result ≡ C.cost self.now.law.value op worker bytes }
