@@ -53,3 +53,22 @@ fn finals_stand_in_the_order_of_first_writing(rt: HostRuntime) -> Result<(), Fai
     assert!(rt; finals[1].0 == a && is_main(&finals[1].1, 1));
     Ok(())
 }
+
+// `grow("F", "1"); grow("F", "2"); count("F", n);`: the first call reads the user's own file, each
+// later one what the one before wrote.
+#[test]
+fn a_call_reads_what_the_last_writer_gave(rt: HostRuntime) -> Result<(), Fail> {
+    let f = Name::read(b"F")?;
+    let mut table = NameTable::new(rt.alloc());
+    assert_eq!(rt; table.number(f.copy())?, 0);
+    table.reserve(2)?;
+    assert!(rt; matches!(table.current(&f), Version::Original { .. }));
+    table.write(&f, Version::Out { n: 1, place: 1 });
+    assert!(rt; is_output(&table.current(&f), 1));
+    table.write(&f, Version::Out { n: 2, place: 1 });
+    assert!(rt; is_output(&table.current(&f), 2));
+    let finals = table.finals(rt.alloc())?;
+    assert_eq!(rt; finals.len(), 1);
+    assert!(rt; finals[0].0 == f && is_output(&finals[0].1, 2));
+    Ok(())
+}
