@@ -79,3 +79,40 @@ fn a_task_waits_for_a_producer_that_is_named_twice(rt: HostRuntime) -> Result<()
     assert!(rt; matches!(graph.actions(), [Action::Read { name: 7 }, Action::Barrier]));
     Ok(())
 }
+
+// `join("A", "B", "C"); join("B", "A", "C");` and `join("A", "B", "C"); grow("A", "x");`: neither call
+// reads what the other writes.
+#[test]
+fn tasks_that_read_no_output_are_ready_at_once(rt: HostRuntime) -> Result<(), Fail> {
+    let mut graph = Graph::new(rt.alloc());
+    graph.add(1, &[])?;
+    graph.add(2, &[])?;
+    assert!(rt; graph.ready_at(0) == Some(1));
+    assert!(rt; graph.ready_at(1) == Some(2));
+    assert!(rt; graph.ready_at(2).is_none());
+    graph.finish(2);
+    assert!(rt; graph.ready_at(0) == Some(1));
+    assert!(rt; graph.ready_at(1).is_none());
+    graph.finish(1);
+    assert!(rt; graph.ready_at(0).is_none());
+    Ok(())
+}
+
+// `grow("F", "1"); grow("F", "2"); count("F", n);`: each call reads what the one before writes.
+#[test]
+fn a_task_waits_for_the_last_writer_of_its_file(rt: HostRuntime) -> Result<(), Fail> {
+    let mut graph = Graph::new(rt.alloc());
+    graph.add(1, &[])?;
+    graph.add(2, &[1])?;
+    graph.add(3, &[2])?;
+    assert!(rt; graph.ready_at(0) == Some(1));
+    assert!(rt; graph.ready_at(1).is_none());
+    graph.finish(1);
+    assert!(rt; graph.ready_at(0) == Some(2));
+    assert!(rt; graph.ready_at(1).is_none());
+    graph.finish(2);
+    assert!(rt; graph.ready_at(0) == Some(3));
+    graph.finish(3);
+    assert!(rt; graph.ready_at(0).is_none());
+    Ok(())
+}
