@@ -27,7 +27,7 @@ pub fn len<R: Files>(rt: &R, name: &DiskName) -> io::Result<Option<u64>> {
 }
 
 /// The file, open to be read, or `None` where it is absent.
-fn open<R: Files>(rt: &R, name: &DiskName) -> io::Result<Option<R::File>> {
+fn open_file<R: Files>(rt: &R, name: &DiskName) -> io::Result<Option<R::File>> {
     if len(rt, name)?.is_none() {
         return Ok(None);
     }
@@ -38,14 +38,37 @@ fn open<R: Files>(rt: &R, name: &DiskName) -> io::Result<Option<R::File>> {
     }
 }
 
-/// Reads from the offset `at` on to the buffer's front, as much as there is and fits.
-pub fn read_at<R: Files>(rt: &R, name: &DiskName, at: u64, buf: &mut [u8]) -> io::Result<usize>
+/// A file that stays open, and where it is read or written next.
+#[derive(Drop)]
+pub struct Open<F: Drop> {
+    name: DiskName,
+    file: F,
+    at: u64,
+}
+
+impl<F: Seek + Drop> Open<F> {
+    fn go_to(&mut self, at: u64) -> io::Result<()> {
+        if self.at != at {
+            self.file.seek(SeekFrom::Start(at))?;
+            self.at = at;
+        }
+        Ok(())
+    }
+}
+
+/// Closes the file where it is one of this name.
+pub fn close<F: Drop>(kept: &mut Option<Open<F>>, name: &DiskName) {
+    if let Some(open) = kept {
+        if open.name == *name {
+            *kept = None;
+        }
+    }
+}
+
+/// Fills the buffer from its front, as far as the file goes.
+fn fill<F: Read>(file: &mut F, buf: &mut [u8]) -> io::Result<usize>
     ensures { IfOk result (λ n. n ≤ length buf.old) }
 {
-    let Some(mut file) = open(rt, name)? else {
-        return Ok(0);
-    };
-    file.seek(SeekFrom::Start(at))?;
     let mut done = 0;
     while done < buf.len() {
         match file.read(&mut buf[done..])? {
@@ -56,16 +79,85 @@ pub fn read_at<R: Files>(rt: &R, name: &DiskName, at: u64, buf: &mut [u8]) -> io
     Ok(done)
 }
 
+/// The file, open to be read, which it may be already; `None` where it is absent.
+fn reader<R: Files>(
+    rt: &R,
+    kept: Option<Open<R::File>>,
+    name: &DiskName,
+) -> io::Result<Option<Open<R::File>>> {
+    if let Some(open) = kept {
+        if open.name == *name {
+            return Ok(Some(open));
+        }
+    }
+    match open_file(rt, name)? {
+        Some(file) => Ok(Some(Open {
+            name: name.copy(),
+            file,
+            at: 0,
+        })),
+        None => Ok(None),
+    }
+}
+
+/// The file, open to be written, which it may be already. It has to be there.
+fn writer<R: Files>(
+    rt: &R,
+    kept: Option<Open<R::File>>,
+    name: &DiskName,
+) -> io::Result<Open<R::File>> {
+    if let Some(open) = kept {
+        if open.name == *name {
+            return Ok(open);
+        }
+    }
+    Ok(Open {
+        name: name.copy(),
+        file: OpenOptions::new().write(true).open(rt, path_of(name)?)?,
+        at: 0,
+    })
+}
+
+/// Reads from the offset `at` on to the buffer's front, as much as there is and fits. The file is kept open;
+/// where this fails, none is.
+pub fn read_at<R: Files>(
+    rt: &R,
+    kept: &mut Option<Open<R::File>>,
+    name: &DiskName,
+    at: u64,
+    buf: &mut [u8],
+) -> io::Result<usize>
+    ensures { IfOk result (λ n. n ≤ length buf.old) }
+{
+    let Some(mut open) = reader(rt, kept.take(), name)? else {
+        return Ok(0);
+    };
+    open.go_to(at)?;
+    let done = fill(&mut open.file, buf)?;
+    open.at = at.saturating_add(done as u64);
+    *kept = Some(open);
+    Ok(done)
+}
+
 pub fn create<R: Files>(rt: &R, name: &DiskName) -> io::Result<()> {
     File::create(rt, path_of(name)?)?;
     Ok(())
 }
 
-/// Writes from the offset `at` on. The file has to be there.
-pub fn write_at<R: Files>(rt: &R, name: &DiskName, at: u64, bytes: &[u8]) -> io::Result<()> {
-    let mut file = OpenOptions::new().write(true).open(rt, path_of(name)?)?;
-    file.seek(SeekFrom::Start(at))?;
-    file.write_all(bytes)
+/// Writes from the offset `at` on. The file has to be there. It is kept open; where this fails, none is.
+pub fn write_at<R: Files>(
+    rt: &R,
+    kept: &mut Option<Open<R::File>>,
+    name: &DiskName,
+    at: u64,
+    bytes: &[u8],
+) -> io::Result<()> {
+    let mut open = writer(rt, kept.take(), name)?;
+    open.go_to(at)?;
+    open.file.write_all(bytes)?;
+    open.at = at.saturating_add(bytes.len() as u64);
+    *kept = Some(open);
+    Ok(())
 }
 
 /// Takes a file away. It may be gone already.
@@ -100,7 +192,7 @@ pub fn names<R: Files + AllocGlobal + Clone>(
 
 /// Has the system bring a file to the disk. It may be gone.
 pub fn sync<R: Files>(rt: &R, name: &DiskName) -> io::Result<()> {
-    match open(rt, name)? {
+    match open_file(rt, name)? {
         Some(file) => file.sync_all(),
         None => Ok(()),
     }

@@ -5,6 +5,7 @@ ghost use Rattle.gs_disk.specs.Counts.{Counts};
 ghost use Rattle.gs_folder.specs.Told.{as_disk, IsNoted};
 
 use crate::calls;
+use crate::calls::Open;
 use gs_disk::{Disk, DiskErr, DiskName};
 use std::alloc::Global;
 use std::collections::BTreeSet;
@@ -14,13 +15,18 @@ use std::marker::Model;
 use std::rt::Files;
 
 /// The current directory. Each error of the system is counted: want of memory as a refusal, and any other
-/// as a fault.
+/// as a fault. The file that was read last and the one that was written last stay open, so that to read or
+/// write on where the last call ended is one call of the system. They are closed where the file is created or
+/// removed, and where a call on them fails.
 #[derive(Drop)]
 pub struct Folder<R: Files + AllocGlobal + Clone + Drop> {
     rt: R,
     alloc: Global,
     faults: u64,
     refusals: u64,
+    // the file that was read last, and the one that was written last
+    reading: Option<Open<R::File>>,
+    writing: Option<Open<R::File>>,
     // the files that were touched since the last sync that succeeded
     touched: BTreeSet<DiskName>,
     // a name may have come or gone since then
@@ -47,6 +53,8 @@ impl<R: Files + AllocGlobal + Clone + Drop> Folder<R> {
             alloc,
             faults: 0,
             refusals: 0,
+            reading: None,
+            writing: None,
             touched: BTreeSet::new(alloc),
             is_renamed: true,
             is_synced: false,
@@ -60,9 +68,18 @@ impl<R: Files + AllocGlobal + Clone + Drop> Folder<R> {
         Ok(())
     }
 
+    /// Closes the file where it is kept open.
+    fn close(&mut self, name: &DiskName)
+        ensures { self.new ≡ self.old }
+    {
+        calls::close(&mut self.reading, name);
+        calls::close(&mut self.writing, name);
+    }
+
     fn try_create(&mut self, name: &DiskName) -> io::Result<()>
         ensures { self.new ≡ self.old }
     {
+        self.close(name);
         self.touch(name)?;
         self.is_renamed = true;
         calls::create(&self.rt, name)
@@ -72,12 +89,13 @@ impl<R: Files + AllocGlobal + Clone + Drop> Folder<R> {
         ensures { self.new ≡ self.old }
     {
         self.touch(name)?;
-        calls::write_at(&self.rt, name, at, bytes)
+        calls::write_at(&self.rt, &mut self.writing, name, at, bytes)
     }
 
     fn try_remove(&mut self, name: &DiskName) -> io::Result<()>
         ensures { self.new ≡ self.old }
     {
+        self.close(name);
         if calls::len(&self.rt, name)?.is_none() {
             return Ok(());
         }
@@ -149,7 +167,7 @@ impl<R: Files + AllocGlobal + Clone + Drop> Disk for Folder<R> {
         ensures cause { HasCause (as_disk self.old) (as_disk self.new) result }
         ensures counts { Counts (as_disk self.old) (as_disk self.new) result }
     {
-        match calls::read_at(&self.rt, name, at, buf) {
+        match calls::read_at(&self.rt, &mut self.reading, name, at, buf) {
             Ok(n) => Ok(n),
             Err(e) => Err(self.note(e)),
         }

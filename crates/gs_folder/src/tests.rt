@@ -8,12 +8,14 @@ use std::rt::Files;
 use std::test::Fail;
 use std::{fs, io};
 
-/// The system, but for a path at which each call fails. At `*` each call fails.
+/// The system, but for a path at which each call fails. At `*` each call fails. Files that are opened are
+/// counted.
 #[derive(Drop)]
 struct Failing<R: Files + Drop> {
     rt: R,
     path: Cell<&'static str>,
     kind: ErrorKind,
+    opened: Cell<u32>,
 }
 
 impl<R: Files + Drop> Failing<R> {
@@ -33,6 +35,7 @@ impl<R: Files + Drop> Files for Failing<R> {
 
     fn open_file(&self, how: &OpenOptions, path: &str) -> io::Result<R::File> {
         self.check(path)?;
+        self.opened.set(self.opened.get().saturating_add(1));
         self.rt.open_file(how, path)
     }
 
@@ -90,6 +93,7 @@ fn an_error_of_the_system_keeps_its_kind(rt: HostRuntime) -> Result<(), Fail> {
             rt: &rt,
             path: Cell::new("*"),
             kind,
+            opened: Cell::new(0),
         };
         let mut disk = Folder::here((&system, alloc), alloc);
         assert_eq!(rt; disk.len(&name), Err(want));
@@ -112,6 +116,7 @@ fn a_missing_file_is_absent(rt: HostRuntime) -> Result<(), Fail> {
         rt: &rt,
         path: Cell::new("*"),
         kind: ErrorKind::NotFound,
+        opened: Cell::new(0),
     };
     let mut disk = Folder::here((&system, alloc), alloc);
     assert_eq!(rt; disk.len(&name), Ok(None));
@@ -174,6 +179,7 @@ fn a_sync_reaches_what_was_touched(rt: HostRuntime) -> Result<(), Fail> {
         rt: &rt,
         path: Cell::new(""),
         kind: ErrorKind::PermissionDenied,
+        opened: Cell::new(0),
     };
     let mut disk = Folder::here((&system, alloc), alloc);
     system.path.set(".");
@@ -213,6 +219,7 @@ fn a_first_sync_reaches_the_store(rt: HostRuntime) -> Result<(), Fail> {
         rt: &rt,
         path: Cell::new(".gs.store-file-of-test"),
         kind: ErrorKind::PermissionDenied,
+        opened: Cell::new(0),
     };
     let mut disk = Folder::here((&system, alloc), alloc);
     assert_eq!(rt; disk.sync(), Err(DiskErr::Fault));
@@ -222,5 +229,32 @@ fn a_first_sync_reaches_the_store(rt: HostRuntime) -> Result<(), Fail> {
     assert_eq!(rt; disk.sync(), Ok(()), "only until a sync succeeds");
     system.path.set("");
     disk.remove(&name)?;
+    Ok(())
+}
+
+#[test]
+fn a_file_that_is_written_in_pieces_stays_open(rt: HostRuntime) -> Result<(), Fail> {
+    let alloc = rt.alloc();
+    let name = DiskName::of(b"file-in-pieces-of-test");
+    let system = Failing {
+        rt: &rt,
+        path: Cell::new(""),
+        kind: ErrorKind::PermissionDenied,
+        opened: Cell::new(0),
+    };
+    let mut disk = Folder::here((&system, alloc), alloc);
+    let mut buf = [0u8; 3];
+    disk.create(&name)?;
+    for at in 0..16u64 {
+        disk.write(&name, at, b"abc")?;
+        assert_eq!(rt; disk.read_into(&name, at, &mut buf)?, 3);
+        assert!(rt; &buf == b"abc");
+    }
+    assert_eq!(rt; system.opened.get(), 3);
+    disk.create(&name)?;
+    assert_eq!(rt; disk.read_into(&name, 0, &mut buf)?, 0);
+    disk.remove(&name)?;
+    assert_eq!(rt; disk.read_into(&name, 0, &mut buf)?, 0);
+    assert_eq!(rt; disk.write(&name, 0, b"abc"), Err(DiskErr::Fault));
     Ok(())
 }

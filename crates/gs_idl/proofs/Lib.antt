@@ -1,19 +1,19 @@
-mod Cutting
-mod Running
-mod Steps
-mod Transitions
-mod SoFar
-mod Complete
-mod Lists
-mod Rules
-mod LastRules
-mod Clean
-mod Ideal
-mod Extends
-mod Faults
-mod OneText
+pub mod Cutting
+pub mod Running
+pub mod Steps
+pub mod Transitions
+pub mod SoFar
+pub mod Complete
+pub mod Lists
+pub mod Rules
+pub mod LastRules
+pub mod Clean
+pub mod Ideal
+pub mod Extends
+pub mod Faults
+pub mod OneText
 pub mod Saying
-mod Naming
-mod ReadsBack
-mod Places
-mod Formed
+pub mod Naming
+pub mod ReadsBack
+pub mod Places
+pub mod Formed

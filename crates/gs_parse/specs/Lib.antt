@@ -10,3 +10,4 @@ pub mod Begins
 pub mod Blocks
 pub mod Frame
 pub mod Faulty
+pub mod Fits

@@ -1,5 +1,6 @@
 // Child programs that are scripts of `sh`, and what they write.
-ghost use Rattle.std.specs.Prelude.{◌≡◌, IfOk};
+ghost use Rattle.std.specs.Prelude.{◌≡◌, IfOk, IsSome};
+ghost use Rattle.gs_proc.specs.ProcLink.{jobs_of};
 
 use crate::ProcLink;
 use crate::number::{number_of, without_line_feed};
@@ -54,6 +55,16 @@ fn run(rt: &HostRuntime, job: &Job) -> Result<(Option<Sequence<Value>>, u64), Fa
     }
 }
 
+// The ends of both tasks in flight.
+fn two_ends(alloc: Global, link: &mut ProcLink<HostRuntime>) -> Result<(Event, Event), Fail>
+    requires first { IsSome (jobs_of link.old 1) }
+    requires second { IsSome (jobs_of link.old 2) }
+{
+    let first = link.next(alloc)?;
+    let second = link.next(alloc)?;
+    Ok((first, second))
+}
+
 // Both ends of two tasks that run side by side.
 fn run_two(rt: &HostRuntime, one: &Job, other: &Job) -> Result<(Event, Event), Fail>
     requires one { one.now.n ≡ 1 }
@@ -63,9 +74,7 @@ fn run_two(rt: &HostRuntime, one: &Job, other: &Job) -> Result<(Event, Event), F
     let mut link = ProcLink::new(rt.clone()?, alloc);
     link.start(alloc, one)?;
     link.start(alloc, other)?;
-    let first = link.next(alloc)?;
-    let second = link.next(alloc)?;
-    Ok((first, second))
+    two_ends(alloc, &mut link)
 }
 
 fn is_number(event: &Event, task: u32, number: i64) -> bool {
@@ -149,9 +158,7 @@ fn reads_nothing_and_prints_to_nobody(rt: HostRuntime) -> Result<(), Fail> {
     )?;
     let outs = outs.ok_or("the task failed")?;
     let good = match outs.items() {
-        [Value::Str { s }] => s
-            .bytes()
-            .starts_with(b"/dev/null /dev/null /dev/null 0 /"),
+        [Value::Str { s }] => s.bytes().starts_with(b"/dev/null /dev/null /dev/null 0 /"),
         _ => false,
     };
     assert!(rt; good);

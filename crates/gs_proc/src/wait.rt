@@ -19,9 +19,7 @@ fn pause_after(waited: u64, in_flight: usize) -> u64
 }
 
 // The first task, in the order of starts, whose child has ended.
-fn first_end<P: OpenProcess>(
-    tasks: &mut Vec<Task<Child<P>>>,
-) -> Result<Option<End>, NoMemory>
+fn first_end<P: OpenProcess>(tasks: &mut Vec<Task<Child<P>>>) -> Result<Option<End>, NoMemory>
     ensures calls { calls tasks.new.items ≡ calls tasks.old.items }
     ensures end { IfOk result (λ end. IfSome end (IsEnd tasks.new.items)) }
 {

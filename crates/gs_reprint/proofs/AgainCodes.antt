@@ -12,7 +12,7 @@ use Rattle.gs_parse.specs.Symbols.{place}
 use Rattle.gs_parse.specs.Notation.{Closed, a_code, a_body, closed, rest_of, body, stmts, fit}
 use Rattle.gs_parse.specs.Grammar.{rule, judged, begins_statement, is_mode, mode_of, begins_body, closes_or_begins, stmts_after}
 use Rattle.gs_parse.specs.Reading.{limited, Accepts}
-use Rattle.gs_reprint.specs.Fits.{CodeFits, CodesFit}
+use Rattle.gs_parse.specs.Fits.{CodeFits, CodesFit}
 use Rattle.gs_reprint.proofs.Again.{Reads, mark, gives_it, takes, reads, word_again, name_again, next_is, without_word, with_word}
 use Rattle.gs_reprint.proofs.AgainTerms.{term_again}
 use Rattle.gs_reprint.proofs.AgainParts.{not_open, not_line, args_again, some_args, condition_again, printing_again, first_again, test_again, step_again}

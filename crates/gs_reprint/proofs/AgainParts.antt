@@ -10,7 +10,7 @@ use Rattle.gs_parse.specs.Symbols.{place}
 use Rattle.gs_parse.specs.Notation.{a_term, terms, a_passed, all_passed, a_printed, a_setting, maybe_setting, maybe_term, more_terms, arg, more_args, args, condition, printing, assigned, for_first, for_test, for_step}
 use Rattle.gs_parse.specs.Grammar.{rule, judged, is_either, assigns}
 use Rattle.gs_parse.specs.Reading.{limited, Accepts}
-use Rattle.gs_reprint.specs.Fits.{TermFits, TermsFit, AddressFits, PassedsFit, MaybeSettingFits, MaybeTermFits}
+use Rattle.gs_parse.specs.Fits.{TermFits, TermsFit, AddressFits, PassedsFit, MaybeSettingFits, MaybeTermFits}
 use Rattle.gs_reprint.proofs.Again.{Reads, mark, gives_it, takes, reads, sign_again, word_again, name_again, format_again, next_is, without_word, with_word}
 use Rattle.gs_reprint.proofs.AgainTerms.{Same, next_binding, term_again}
 

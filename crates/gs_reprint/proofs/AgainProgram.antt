@@ -11,7 +11,7 @@ use Rattle.gs_spelling.specs.Signs.{type_signs, vars_signs, settings_signs, code
 use Rattle.gs_parse.specs.Notation.{Declared, unfit, declared, settings, a_program, decls, starts, program, kind_of}
 use Rattle.gs_parse.specs.Grammar.{rule, is_either, is_zero, begins_declaration, declare, after_on, after_off}
 use Rattle.gs_parse.specs.Reading.{limited, Accepts, Says}
-use Rattle.gs_reprint.specs.Fits.{SettingsFit, ProgramFits}
+use Rattle.gs_parse.specs.Fits.{SettingsFit, ProgramFits}
 use Rattle.gs_reprint.specs.Laws.{SaysAgain}
 use Rattle.gs_reprint.proofs.Again.{Reads, mark, Passes, wants, gives_it, takes, chooses, passes, reads, word_again, name_again, accepts_is, next_is, without_word}
 use Rattle.gs_reprint.proofs.AgainTerms.{term_again}

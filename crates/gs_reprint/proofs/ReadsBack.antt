@@ -7,7 +7,7 @@ use Rattle.gs_spelling.specs.Spelled.{ProgramSpelled}
 use Rattle.gs_spelling.proofs.Programs.{prints_its_signs}
 use Rattle.gs_spelling.proofs.Spelling.{texts_are_spelled}
 use Rattle.gs_parse.proofs.Texts.{one_program}
-use Rattle.gs_reprint.specs.Fits.{ProgramFits}
+use Rattle.gs_parse.specs.Fits.{ProgramFits}
 use Rattle.gs_reprint.specs.Laws.{ReadsBack, PrintsOnce}
 use Rattle.gs_reprint.proofs.AgainProgram.{says_again}
 use Rattle.gs_reprint.proofs.WithinProgram.{reads_within}

@@ -11,7 +11,7 @@ use Rattle.gs_parse.specs.Grammar.{rule, judged, is}
 use Rattle.gs_parse.specs.Reading.{limited, Accepts, Says, given, taken, chosen, passed, part}
 use Rattle.gs_spelling.specs.Spelled.{IsName, IsString, SignSpelled, TermSpelled, TermsSpelled, SettingSpelled, MaybeSetting, MaybeTerm, PassedsSpelled, CodeSpelled, CodesSpelled, VarsSpelled, SettingsSpelled, ProgramSpelled}
 use Rattle.gs_spelling.specs.Laws.{sign_at}
-use Rattle.gs_reprint.specs.Fits.{TermFits, TermsFit, AddressFits, PassedsFit, MaybeSettingFits, MaybeTermFits, CodeFits, CodesFit, SettingsFit, ProgramFits}
+use Rattle.gs_parse.specs.Fits.{TermFits, TermsFit, AddressFits, PassedsFit, MaybeSettingFits, MaybeTermFits, CodeFits, CodesFit, SettingsFit, ProgramFits}
 
 -- ---- things that are both spelled and within the limits
 

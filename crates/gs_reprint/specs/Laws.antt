@@ -9,7 +9,7 @@ use Rattle.gs_parse.specs.Faulty.{IsText}
 use Rattle.gs_spelling.specs.Spelled.{SignSpelled, ProgramSpelled}
 use Rattle.gs_spelling.specs.Signs.{program_signs}
 use Rattle.gs_spelling.specs.Laws.{sign_at}
-use Rattle.gs_reprint.specs.Fits.{ProgramFits}
+use Rattle.gs_parse.specs.Fits.{ProgramFits}
 
 -- What signs say is within the limits, and spelled as the signs are.
 abbrev pub ReadsWithin : Type 0

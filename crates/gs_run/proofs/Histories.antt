@@ -3,7 +3,7 @@ use Rattle.std.proofs.Common.{◌≡◌, ◌⊎◌, ℕ, zero, suc, ◌+◌, ◌
 use Rattle.std.proofs.lemmas.Option.{slice_get_read}
 use Rattle.std.specs.List.{slice_get}
 use Rattle.gs_types.specs.Job.{Meaning}
-use Rattle.gs_types.specs.History.{History, started, refused, finished, failed, abandoned}
+use Rattle.gs_types.specs.History.{History, noted, started, refused, finished, failed, abandoned}
 use Rattle.gs_form.specs.declared.program.Step.{Step}
 use Rattle.gs_disk.specs.Folder.{Folder}
 use Rattle.gs_run.specs.Calls.{args_of, Carries, Runs, job_of, failure_in}
@@ -16,6 +16,7 @@ use Rattle.gs_run.proofs.Reaching.{args_there, some_over}
 
 pub failure_more : (front h : History) → failure_in h ≡ None → failure_in (front ++ h) ≡ failure_in front
 failure_more [] h e = e
+failure_more (noted n outs ∷ front) h e = failure_more front h e
 failure_more (started n w job ∷ front) h e = failure_more front h e
 failure_more (refused n w ∷ front) h e = refl
 failure_more (finished n outs ∷ front) h e = failure_more front h e

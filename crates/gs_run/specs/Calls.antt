@@ -2,7 +2,7 @@
 use Rattle.std.specs.Prelude.{◌≡◌, ℕ, zero, suc, List, [], ◌∷◌, Option, Some, None, bytes_eq, if◌then◌else◌}
 use Rattle.std.specs.List.{slice_get}
 use Rattle.gs_types.specs.Job.{Meaning, Gives}
-use Rattle.gs_types.specs.History.{History, started, refused, finished, failed, abandoned}
+use Rattle.gs_types.specs.History.{History, noted, started, refused, finished, failed, abandoned}
 use Rattle.gs_types.specs.declared.value.Value.{Value}
 use Rattle.gs_types.specs.declared.value.Value.TheVariants.{Int, Str, File}
 use Rattle.gs_types.specs.declared.job.Arg.{Arg}
@@ -85,6 +85,7 @@ Runs law program steps (suc k) before after h =
 -- the task that failed or was refused last
 abbrev pub failure_in : History → Option ℕ
 failure_in [] = None
+failure_in (noted n outs ∷ h) = failure_in h
 failure_in (started n worker job ∷ h) = failure_in h
 failure_in (refused n worker ∷ h) = Some n
 failure_in (finished n outs ∷ h) = failure_in h

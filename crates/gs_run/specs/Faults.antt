@@ -1,6 +1,6 @@
 -- Faults of a disk.
 use Rattle.std.specs.Prelude.{ℕ, ◌≤◌, Result, IsErrOf}
-use Rattle.gs_disk.specs.Folder.{Rises}
+use Rattle.gs_types.specs.Counts.{Rises}
 use Rattle.gs_disk.specs.declared.disk.DiskErr.{DiskErr}
 use Rattle.gs_disk.specs.declared.disk.DiskErr.TheVariants.{Fault}
 

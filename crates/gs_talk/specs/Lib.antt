@@ -4,3 +4,9 @@ pub mod Texts
 pub mod Talk
 pub mod Seq
 pub mod Actions
+pub mod Passed
+pub mod Laws
+pub mod View
+pub mod Found
+pub mod Pieces
+pub mod Variables

@@ -18,8 +18,8 @@ keep-requires-clause-fit g c =
 pub returns-in-Ok-keep-clause-told : goal.returns-in-Ok-keep-clause-told
 returns-in-Ok-keep-clause-told g c = λ past told.
     let job : Job = record { n = c.args.n; worker = 0; program = c.in-Ok.program; op = c.in-Ok-copy.op; args = c.in-Ok-Some.args } in
-    let program : c.in-Ok.program ≡ c.args.program.now = c.in-Ok.ensures ∙ c.bytes.ensures in
-    let op : c.in-Ok-copy.op ≡ c.args.step.now.op = c.in-Ok-copy.ensures ∙ c.bytes-2.ensures in
+    let program : c.in-Ok.program ≡ c.args.program.now = c.in-Ok.ensures ∙ c.bytes.ensures.value in
+    let op : c.in-Ok-copy.op ≡ c.args.step.now.op = c.in-Ok-copy.ensures ∙ c.bytes-2.ensures.value in
     let is : job ≡ job_of c.args.program.now c.args.n c.args.step.now c.in-Ok-Some.args = λ i. record { n = c.args.n; worker = 0; program = program i; op = op i; args = c.in-Ok-Some.args } in
     finished_told (g.K.L.Law.meaning (g.K.Link.law (link_of c.args.site.now))) job c.args.program.now c.args.n c.args.step.now c.in-Ok-Some.args (content_of c.args.originals.now.map) (content_of c.args.changed.now.files.map) (content_of c.keep.new.self.files.map)
     (g.K.Link.tells (link_of c.run_task.new.site)) past c.in-Ok-run_task.outs is (sym c.in-Ok-Some.ensures ∙ c.in-Ok-Some.field-0-is) (c.in-Ok-run_task.ensures.told past told) c.in-Ok-keep.ensures.kept

@@ -44,7 +44,7 @@ pub returns-in-Err-Fault-clause-ran : goal.returns-in-Err-Fault-clause-ran
 returns-in-Err-Fault-clause-ran g c = λ ws run.
     let same = λ (t : g.D.Disk.tells). ap (λ d. (g.D.Disk.state d).folder) (c.disk-2.ensures.value ∙ c.carry_out.ensures.disk) ∙ c.in-Ok.ensures.same t in
     let le : (g.D.Disk.state c.disk.result.now).faults ≤ (g.D.Disk.state c.disk-2.result.now).faults = subst (λ d. (g.D.Disk.state c.disk.result.now).faults ≤ (g.D.Disk.state d).faults) (sym (c.disk-2.ensures.value ∙ c.carry_out.ensures.disk)) c.in-Ok.ensures.rise in
-    let rises : Rises (g.D.Disk.state c.disk-2.result.now).faults (g.D.Disk.state c.write_files.new.disk).faults = c.write_files.ensures.cause.fault (c.in-Err-Fault.is ∙ ap Err c.in-Err-Fault.field-0-is) in
+    let rises : Rises (g.D.Disk.state c.disk-2.result.now).faults (g.D.Disk.state c.write_files.new.disk).faults = c.write_files.ensures.cause.faults.cause (c.in-Err-Fault.is ∙ ap Err c.in-Err-Fault.field-0-is) in
     subst (λ d. Ran g.D.Disk.tells (g.D.Disk.state d) (g.D.Disk.state c.write_files.new.disk) (g.K.L.Law.meaning (g.K.Link.law (link_of c.args.site.now))) (g.K.Link.tells (link_of c.args.site.now)) (g.K.Link.tells (link_of c.carry_out.new.site)) (g.K.Link.faults (link_of c.args.site.now)) (g.K.Link.faults (link_of c.carry_out.new.site)) ws (Err Disk))
     c.disk.ensures.value
     (ran_disk g.D.Disk.tells (g.D.Disk.state c.disk.result.now) (g.D.Disk.state c.disk-2.result.now) (g.D.Disk.state c.write_files.new.disk) (g.K.L.Law.meaning (g.K.Link.law (link_of c.args.site.now))) (g.K.Link.tells (link_of c.args.site.now)) (g.K.Link.tells (link_of c.carry_out.new.site)) (g.K.Link.faults (link_of c.args.site.now)) (g.K.Link.faults (link_of c.carry_out.new.site)) ws c.args.words.now.idl c.args.words.now.program c.args.words.now.workers c.in-Ok.plan (content_of c.in-Ok-carry_out.changed.files.map) run c.in-Ok.ensures.judged same c.in-Ok-carry_out.ensures.only c.in-Ok-carry_out.ensures.told c.in-Err-Fault.ensures.others le rises)

@@ -1,4 +1,4 @@
-use Rattle.std.proofs.Common.{◌≡◌, ◌∙◌, ap, sym, subst, refl, is_some, Some}
+use Rattle.std.proofs.Common.{◌∙◌, ap, sym, subst, refl, is_some, Some}
 use Rattle.gs_proc.specs.Tasks.{calls, EndedWell}
 use Rattle.gs_site.specs.Jobs.{job_at}
 use Rattle.gs_proc.proofs.TaskLists.{task_is}

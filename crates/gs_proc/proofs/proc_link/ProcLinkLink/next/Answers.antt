@@ -1,4 +1,4 @@
-use Rattle.std.proofs.Common.{◌≡◌, ap, subst, List, Some, IfOk}
+use Rattle.std.proofs.Common.{◌≡◌, subst, List, Some, IfOk}
 use Rattle.gs_types.specs.declared.job.Job.{Job}
 use Rattle.gs_site.specs.Jobs.{job_at}
 use Rattle.gs_site.specs.Link.{FitsJob, task_of}

@@ -1,0 +1,12 @@
+pub mod Alone
+pub mod CodesMean
+pub mod CodesSaid
+pub mod Exact
+pub mod Meaning
+pub mod PartsSaid
+pub mod ProgramMean
+pub mod ProgramSaid
+pub mod Same
+pub mod Saying
+pub mod TermsMean
+pub mod TermsSaid

@@ -1,0 +1,5 @@
+pub mod Signs
+pub mod Expressions
+pub mod Statements
+pub mod Programs
+pub mod Laws

@@ -1,0 +1,6 @@
+use Rattle.std.proofs.Common.{◌≡◌}
+use Rattle.gs_graph.specs.Graph.{count_in}
+use Rattle.gs_graph.proofs.tests.a_fan_is_ready_after_its_last_producer.Given as goal
+
+abbrev pub invariant-loop-n : goal.invariant-loop-n
+invariant-loop-n g l = count_in l.graph ≡ 10000

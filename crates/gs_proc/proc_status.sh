@@ -1,0 +1,2 @@
+printf 5 > "$1"
+exit 3

@@ -1,0 +1,11 @@
+use Rattle.std.proofs.Common.{◌≡◌, map, take}
+use Rattle.gs_tree.specs.View.{var_of}
+use Rattle.gs_talk.specs.Talk.{first_slot}
+use Rattle.gs_talk.proofs.vars.first_vars.Given as goal
+
+abbrev pub invariant-loop-var : goal.invariant-loop-var
+invariant-loop-var l = record {
+  names : l.names.items ≡ map (λ v. v.0.text) (map var_of (take l.var-index l.vars));
+  kinds : l.kinds.items ≡ map (λ v. v.1) (map var_of (take l.var-index l.vars));
+  slots : l.slots.items ≡ map (λ v. first_slot v.1) (map var_of (take l.var-index l.vars));
+}
