@@ -8,5 +8,6 @@ use Rattle.gs_tree.specs.Formats.{format_kinds}
 abbrev pub IsConversion : List ℕ → Conversion → Type 0
 IsConversion rest Plain = format_kinds rest ≡ format_kinds (drop 1 rest)
 IsConversion rest Percent = (2 ≤ length rest) × (format_kinds rest ≡ format_kinds (drop 2 rest))
-IsConversion rest (Value kind) = (2 ≤ length rest) × (format_kinds rest ≡ option_map (λ ks. kind ∷ ks) (format_kinds (drop 2 rest)))
+IsConversion rest (Value kind) = (2 ≤ length rest)
+    × (format_kinds rest ≡ option_map (λ ks. kind ∷ ks) (format_kinds (drop 2 rest)))
 IsConversion rest Bad = format_kinds rest ≡ None

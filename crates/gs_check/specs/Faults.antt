@@ -1,5 +1,5 @@
--- The first fault of a program: the variables come first, then the initial assignments, then the statements, each in the order of the text,
--- and at one place in the order of the kinds.
+-- The first fault of a program: the variables come first, then the initial assignments, then the
+-- statements, each in the order of the text, and at one place in the order of the kinds.
 use Rattle.std.specs.Prelude.{ℕ, ◌==◌, Bool, true, false, ◌&&◌, ◌||◌, not, List, [], ◌∷◌, ◌++◌, length, Option, Some, None, is_none, is_some, if◌then◌else◌}
 use Rattle.std.specs.Str.{bytes_eq}
 use Rattle.std.specs.Option.{option_or}
@@ -33,7 +33,8 @@ fault_if false line kind = None
 -- a name at which a variable of this kind is wanted
 abbrev pub name_fault : Vars → (wanted : VarKind) → Name → Option Fault
 name_fault vars wanted name =
-    fault_if (is_none (declared_kind vars name.text)) name.line Unknown then fault_if (is_wrong wanted (declared_kind vars name.text)) name.line WrongKind
+    fault_if (is_none (declared_kind vars name.text)) name.line Unknown
+    then fault_if (is_wrong wanted (declared_kind vars name.text)) name.line WrongKind
 
 -- an expression that isn't of the kind that is wanted: the place is its first leaf
 abbrev pub wrong_fault : Vars → (wanted : VarKind) → Term → Option Fault
@@ -43,7 +44,8 @@ wrong_fault vars wanted t = fault_if (is_wrong wanted (term_kind vars t)) (first
 abbrev pub inner_fault : Vars → (here : Option Fault) → Term → Option Fault
 inner_fault vars here (num line v) = here
 inner_fault vars here (lit line s) = here
-inner_fault vars here (var name) = fault_if (is_none (declared_kind vars name.text)) name.line Unknown then here
+inner_fault vars here (var name) = fault_if (is_none (declared_kind vars name.text)) name.line
+    Unknown then here
 inner_fault vars here (atoi a) = inner_fault vars (wrong_fault vars Str a then here) a
 inner_fault vars here (strcmp a b) =
     inner_fault vars (wrong_fault vars Str a then here) a
@@ -73,7 +75,8 @@ value_fault vars (Some Str) to value = term_fault vars Str value
 
 abbrev pub setting_fault : Vars → Setting → Option Fault
 setting_fault vars s =
-    fault_if (is_none (declared_kind vars s.to.text)) s.to.line Unknown then value_fault vars (declared_kind vars s.to.text) s.to s.value
+    fault_if (is_none (declared_kind vars s.to.text)) s.to.line Unknown
+    then value_fault vars (declared_kind vars s.to.text) s.to s.value
 
 abbrev pub maybe_setting_fault : Vars → Option Setting → Option Fault
 maybe_setting_fault vars None = None
@@ -98,7 +101,8 @@ args_fault vars (t ∷ ts) = inner_fault vars None t then args_fault vars ts
 
 abbrev pub format_fault : Vars → Formatted → List Term → Option Fault
 format_fault vars format args =
-    fault_if (not (is_format vars (format_kinds format.text) args)) format.line BadFormat then args_fault vars args
+    fault_if (not (is_format vars (format_kinds format.text) args)) format.line BadFormat
+    then args_fault vars args
 
 -- ---- task calls
 
@@ -121,7 +125,8 @@ is_variable_of name t = false
 abbrev pub stands_out : List Param → List Passed → List ℕ → Bool
 stands_out [] args name = false
 stands_out (p ∷ ps) [] name = false
-stands_out (p ∷ ps) (a ∷ args) name = (is_out p.dir && is_variable_of name a.value) || stands_out ps args name
+stands_out (p ∷ ps) (a ∷ args) name = (is_out p.dir && is_variable_of name a.value)
+    || stands_out ps args name
 
 -- it is a variable that stands in an out place of these
 abbrev pub repeats : List Param → List Passed → Term → Bool
@@ -135,7 +140,8 @@ is_no_variable p a = if is_out_scalar p then not (is_variable a.value) else a.by
 -- what stands at an argument's first sign
 abbrev pub passed_place_fault : Vars → Param → Passed → Option Fault
 passed_place_fault vars p a =
-    fault_if (is_wrong (place_kind p.kind) (term_kind vars a.value)) a.line WrongKind then fault_if (is_no_variable p a) a.line NotVariable
+    fault_if (is_wrong (place_kind p.kind) (term_kind vars a.value)) a.line WrongKind
+    then fault_if (is_no_variable p a) a.line NotVariable
 
 -- the first sign of an argument is its first leaf
 abbrev pub leads_with_leaf : Passed → Bool
@@ -143,22 +149,26 @@ leads_with_leaf a = not a.by_address && begins_with_leaf a.value && a.line == fi
 
 -- what stands inside an argument, with what stands at its first sign
 abbrev pub own_fault : Vars → (here : Option Fault) → Passed → Option Fault
-own_fault vars here a = if leads_with_leaf a then inner_fault vars here a.value else (here then inner_fault vars None a.value)
+own_fault vars here a = if leads_with_leaf a then inner_fault vars here a.value
+    else (here then inner_fault vars None a.value)
 
 -- an argument, after those before
 abbrev pub passed_fault : Vars → List Param → (before : List Passed) → Param → Passed → Option Fault
 passed_fault vars params before p a =
-    fault_if (is_out p.dir && repeats params before a.value) a.line Twice then own_fault vars (passed_place_fault vars p a) a
+    fault_if (is_out p.dir && repeats params before a.value) a.line Twice
+    then own_fault vars (passed_place_fault vars p a) a
 
 -- the arguments from one on, at these places
-abbrev pub all_passed_fault : Vars → List Param → (before : List Passed) → List Param → List Passed → Option Fault
+abbrev pub all_passed_fault : Vars → List Param → (before : List Passed) → List Param → List Passed
+    → Option Fault
 all_passed_fault vars params before [] args = None
 all_passed_fault vars params before (p ∷ ps) [] = None
 all_passed_fault vars params before (p ∷ ps) (a ∷ args) =
     passed_fault vars params before p a then all_passed_fault vars params (before ++ a ∷ []) ps args
 
 -- a call of the operation at this place, where one has the name
-abbrev pub call_fault : List Signature → Vars → (op : Option ℕ) → (line : ℕ) → List Passed → Option Fault
+abbrev pub call_fault : List Signature → Vars → (op : Option ℕ) → (line : ℕ) → List Passed
+    → Option Fault
 call_fault ops vars None line args = Some (record { line = line; kind = Unknown })
 call_fault ops vars (Some op) line args =
     fault_if (not (length (params_at ops op) == length args)) line WrongCount
@@ -173,16 +183,22 @@ abbrev mutual
   code_fault ops vars (set a) = setting_fault vars a
   code_fault ops vars (choose line test then_do else_do) =
       term_fault vars Int test then codes_fault ops vars then_do then else_fault ops vars else_do
-  code_fault ops vars (while line test body) = term_fault vars Int test then codes_fault ops vars body
+  code_fault ops vars (while line test body) = term_fault vars Int test
+      then codes_fault ops vars body
   code_fault ops vars (for line first test step body) =
-      maybe_setting_fault vars first then maybe_term_fault vars Int test then maybe_setting_fault vars step then codes_fault ops vars body
-  code_fault ops vars (open_file line to path mode) = name_fault vars Handle to then term_fault vars Str path
-  code_fault ops vars (read_line line got handle to) = name_fault vars Int got then name_fault vars Handle handle then name_fault vars Str to
+      maybe_setting_fault vars first then maybe_term_fault vars Int test
+      then maybe_setting_fault vars step then codes_fault ops vars body
+  code_fault ops vars (open_file line to path mode) = name_fault vars Handle to
+      then term_fault vars Str path
+  code_fault ops vars (read_line line got handle to) = name_fault vars Int got
+      then name_fault vars Handle handle then name_fault vars Str to
   code_fault ops vars (close_file line handle) = name_fault vars Handle handle
   code_fault ops vars (barrier line) = None
   code_fault ops vars (print line format args) = format_fault vars format args
-  code_fault ops vars (print_file line handle format args) = name_fault vars Handle handle then format_fault vars format args
-  code_fault ops vars (print_str line to format args) = name_fault vars Str to then format_fault vars format args
+  code_fault ops vars (print_file line handle format args) = name_fault vars Handle handle
+      then format_fault vars format args
+  code_fault ops vars (print_str line to format args) = name_fault vars Str to
+      then format_fault vars format args
   code_fault ops vars (call op args) = call_fault ops vars (op_place ops op.text) op.line args
 
   pub codes_fault : List Signature → Vars → Codes → Option Fault
@@ -203,7 +219,8 @@ is_taken ops before name = is_some (declared_kind before name) || is_some (op_pl
 abbrev pub vars_fault : List Signature → (before : Vars) → Vars → Option Fault
 vars_fault ops before [] = None
 vars_fault ops before (v ∷ vs) =
-    fault_if (is_taken ops before v.0.text) v.0.line Twice then fault_if (length before == 128) v.0.line TooMany
+    fault_if (is_taken ops before v.0.text) v.0.line Twice
+    then fault_if (length before == 128) v.0.line TooMany
     then vars_fault ops (before ++ v ∷ []) vs
 
 abbrev pub initial_fault : Vars → List Setting → Option Fault
@@ -211,4 +228,5 @@ initial_fault vars [] = None
 initial_fault vars (s ∷ ss) = setting_fault vars s then initial_fault vars ss
 
 abbrev pub fault_of : List Signature → Program → Option Fault
-fault_of ops p = vars_fault ops [] p.vars then initial_fault p.vars p.first then codes_fault ops p.vars p.body
+fault_of ops p = vars_fault ops [] p.vars then initial_fault p.vars p.first
+    then codes_fault ops p.vars p.body

@@ -10,7 +10,8 @@ use Rattle.gs_check.specs.Passes.{ProgramPasses}
 
 -- A program in which no check finds a fault passes, node by node.
 abbrev pub PassesNodeByNode : Type 0
-PassesNodeByNode = (ops : List Signature) (p : Program) → fault_of ops p ≡ None → ProgramPasses ops p
+PassesNodeByNode = (ops : List Signature) (p : Program) → fault_of ops p ≡ None
+    → ProgramPasses ops p
 
 -- What no operation may be called is what a main program has for itself.
 abbrev pub SameKeywords : Type 0

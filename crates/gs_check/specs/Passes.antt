@@ -32,7 +32,8 @@ TermsAre vars (kind ∷ kinds) (t ∷ ts) = TermIs vars kind t × TermsAre vars 
 
 -- an int is set to an int, or a string to a string
 abbrev pub SettingPasses : Vars → Setting → Type 0
-SettingPasses vars s = (NameIs vars Int s.to × TermIs vars Int s.value) ⊎ (NameIs vars Str s.to × TermIs vars Str s.value)
+SettingPasses vars s = (NameIs vars Int s.to × TermIs vars Int s.value)
+    ⊎ (NameIs vars Str s.to × TermIs vars Str s.value)
 
 abbrev pub MaybeSettingPasses : Vars → Option Setting → Type 0
 MaybeSettingPasses vars None = Unit {0}
@@ -48,22 +49,27 @@ pub record FormatPasses (vars : Vars) (format : Formatted) (args : List Term) : 
   pub takes : format_kinds format.text ≡ Some kinds
   pub args_are : TermsAre vars kinds args
 
--- an argument at its place: of the place's kind, a variable where the place gives a number or a string, and `&` nowhere else
+-- an argument at its place: of the place's kind, a variable where the place gives a number or a
+-- string, and `&` nowhere else
 pub record PassedIs (vars : Vars) (p : Param) (a : Passed) : Type 0 where
   pub term : TermIs vars (place_kind p.kind) a.value
   pub variable : is_out_scalar p ≡ true → is_variable a.value ≡ true
   pub no_address : is_out_scalar p ≡ false → a.by_address ≡ false
 
--- one argument for each place, after those before; none is a variable that stands in an out place before, where its own is one
-abbrev pub PassedAre : Vars → List Param → (before : List Passed) → List Param → List Passed → Type 0
+-- one argument for each place, after those before; none is a variable that stands in an out place
+-- before, where its own is one
+abbrev pub PassedAre : Vars → List Param → (before : List Passed) → List Param → List Passed
+    → Type 0
 PassedAre vars params before [] [] = Unit {0}
 PassedAre vars params before [] (a ∷ args) = ⊥
 PassedAre vars params before (p ∷ ps) [] = ⊥
 PassedAre vars params before (p ∷ ps) (a ∷ args) =
-    (is_out p.dir ≡ true → repeats params before a.value ≡ false) × PassedIs vars p a × PassedAre vars params (before ++ a ∷ []) ps args
+    (is_out p.dir ≡ true → repeats params before a.value ≡ false) × PassedIs vars p a
+    × PassedAre vars params (before ++ a ∷ []) ps args
 
 -- a call of an operation that there is
-pub record CallPasses (ops : List Signature) (vars : Vars) (op : Name) (args : List Passed) : Type 0 where
+pub record CallPasses (ops : List Signature) (vars : Vars) (op : Name) (args : List Passed) : Type
+    0 where
   pub place : ℕ
   pub found : op_place ops op.text ≡ Some place
   pub args_are : PassedAre vars (params_at ops place) [] (params_at ops place) args
@@ -73,17 +79,22 @@ abbrev mutual
   CodePasses ops vars (empty line) = Unit {0}
   CodePasses ops vars (block line body) = CodesPass ops vars body
   CodePasses ops vars (set a) = SettingPasses vars a
-  CodePasses ops vars (choose line test then_do else_do) = TermIs vars Int test × CodesPass ops vars then_do × ElsePasses ops vars else_do
+  CodePasses ops vars (choose line test then_do else_do) = TermIs vars Int test
+      × CodesPass ops vars then_do × ElsePasses ops vars else_do
   CodePasses ops vars (while line test body) = TermIs vars Int test × CodesPass ops vars body
   CodePasses ops vars (for line first test step body) =
-      MaybeSettingPasses vars first × MaybeTermIs vars Int test × MaybeSettingPasses vars step × CodesPass ops vars body
+      MaybeSettingPasses vars first × MaybeTermIs vars Int test × MaybeSettingPasses vars step
+      × CodesPass ops vars body
   CodePasses ops vars (open_file line to path mode) = NameIs vars Handle to × TermIs vars Str path
-  CodePasses ops vars (read_line line got handle to) = NameIs vars Int got × NameIs vars Handle handle × NameIs vars Str to
+  CodePasses ops vars (read_line line got handle to) = NameIs vars Int got
+      × NameIs vars Handle handle × NameIs vars Str to
   CodePasses ops vars (close_file line handle) = NameIs vars Handle handle
   CodePasses ops vars (barrier line) = Unit {0}
   CodePasses ops vars (print line format args) = FormatPasses vars format args
-  CodePasses ops vars (print_file line handle format args) = NameIs vars Handle handle × FormatPasses vars format args
-  CodePasses ops vars (print_str line to format args) = NameIs vars Str to × FormatPasses vars format args
+  CodePasses ops vars (print_file line handle format args) = NameIs vars Handle handle
+      × FormatPasses vars format args
+  CodePasses ops vars (print_str line to format args) = NameIs vars Str to
+      × FormatPasses vars format args
   CodePasses ops vars (call op args) = CallPasses ops vars op args
 
   pub CodesPass : List Signature → Vars → Codes → Type 0
@@ -102,7 +113,8 @@ SettingsPass vars (s ∷ ss) = SettingPasses vars s × SettingsPass vars ss
 abbrev pub VarsPass : List Signature → (before : Vars) → Vars → Type 0
 VarsPass ops before [] = Unit {0}
 VarsPass ops before (v ∷ vs) =
-    (declared_kind before v.0.text ≡ None) × (op_place ops v.0.text ≡ None) × (length before < 128) × VarsPass ops (before ++ v ∷ []) vs
+    (declared_kind before v.0.text ≡ None) × (op_place ops v.0.text ≡ None) × (length before < 128)
+    × VarsPass ops (before ++ v ∷ []) vs
 
 pub record ProgramPasses (ops : List Signature) (p : Program) : Type 0 where
   pub vars : VarsPass ops [] p.vars

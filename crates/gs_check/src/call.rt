@@ -80,7 +80,8 @@ fn leads_with_leaf(a: &Argument) -> bool
 }
 
 fn place_fault(a: &Argument, vars: &[Var], dir: Dir, kind: ParamKind) -> Option<Fault>
-    ensures { (p : Param) → p.dir ≡ dir → p.kind ≡ kind → result ≡ passed_place_fault (map var_of vars.now) p (passed_of a.now) }
+    ensures { (p : Param) → p.dir ≡ dir → p.kind ≡ kind
+        → result ≡ passed_place_fault (map var_of vars.now) p (passed_of a.now) }
 {
     let wrong = is_wrong(place_kind(kind), expr_kind(&a.e, vars));
     let no_variable = if is_out_scalar(dir, kind) {
@@ -113,7 +114,8 @@ fn stands_out(idl: &Idl, op: u8, before: &[Argument], name: &[u8]) -> bool
 fn repeats(idl: &Idl, op: u8, before: &[Argument], e: &Expr) -> bool
     requires room { length before.now ≤ length (params_at idl.now.ops op) }
     requires few { length before.now < 256 }
-    ensures { result ≡ repeats (params_at idl.now.ops op) (map passed_of before.now) (term_of e.now) }
+    ensures { result ≡ repeats (params_at idl.now.ops op) (map passed_of before.now)
+        (term_of e.now) }
 {
     match e {
         Expr::Num { line: _, v: _ } => false,
@@ -148,7 +150,8 @@ fn passed_fault(idl: &Idl, op: u8, before: &[Argument], a: &Argument, vars: &[Va
     requires room { length before.now < length (params_at idl.now.ops op) }
     requires few { length before.now < 256 }
     ensures { (p : Param) → slice_get (params_at idl.now.ops op) (length before.now) ≡ Some p
-        → result ≡ passed_fault (map var_of vars.now) (params_at idl.now.ops op) (map passed_of before.now) p (passed_of a.now) }
+        → result ≡ passed_fault (map var_of vars.now) (params_at idl.now.ops op)
+        (map passed_of before.now) p (passed_of a.now) }
 {
     let (dir, kind) = idl.param(op, before.len() as u8);
     let again = repeats(idl, op, before, &a.e);
@@ -173,7 +176,8 @@ fn args_fault(idl: &Idl, op: u8, args: &[Argument], vars: &[Var]) -> Option<Faul
 
 /// A task call.
 pub(crate) fn call_fault(idl: &Idl, op: &Ident, args: &[Argument], vars: &[Var]) -> Option<Fault>
-    ensures { result ≡ call_fault idl.now.ops (map var_of vars.now) (op_place idl.now.ops (name_of op.now).text) op.now.line (map passed_of args.now) }
+    ensures { result ≡ call_fault idl.now.ops (map var_of vars.now)
+        (op_place idl.now.ops (name_of op.now).text) op.now.line (map passed_of args.now) }
 {
     match idl.find(&op.name) {
         None => fault_if(true, op.line, CheckKind::Unknown),

@@ -22,7 +22,8 @@ impl Checked {
     /// The program.
     pub fn tree(&self) -> &Tree
         ensures program { program_of result.now ≡ program_in self.now }
-        ensures passed { is_some (fault_of (interface_in self.now).ops (program_in self.now)) ≡ false }
+        ensures passed { is_some (fault_of (interface_in self.now).ops (program_in self.now))
+            ≡ false }
         ensures passes { ProgramPasses (interface_in self.now).ops (program_in self.now) }
     {
         &self.tree

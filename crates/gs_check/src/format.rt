@@ -40,7 +40,8 @@ fn first_conversion(rest: &[u8]) -> Conversion
 
 /// The arguments are as many as the format takes, and of the kinds that it takes.
 fn is_format(format: &[u8], args: &[Expr], vars: &[Var]) -> bool
-    ensures { result ≡ is_format (map var_of vars.now) (format_kinds format.now) (map term_of args.now) }
+    ensures { result ≡ is_format (map var_of vars.now) (format_kinds format.now)
+        (map term_of args.now) }
 {
     let mut at = 0;
     let mut used = 0;
@@ -75,7 +76,8 @@ fn args_fault(args: &[Expr], vars: &[Var]) -> Option<Fault>
 
 /// A format and its arguments.
 pub(crate) fn format_fault(format: &Format, args: &[Expr], vars: &[Var]) -> Option<Fault>
-    ensures { result ≡ format_fault (map var_of vars.now) (formatted_of format.now) (map term_of args.now) }
+    ensures { result ≡ format_fault (map var_of vars.now) (formatted_of format.now)
+        (map term_of args.now) }
 {
     let bad = !is_format(&format.s, args, vars);
     fault_if(bad, format.line, CheckKind::BadFormat).or(args_fault(args, vars))

@@ -21,7 +21,8 @@ fn is_taken(idl: &Idl, before: &[Var], name: &[u8]) -> bool
 }
 
 fn var_fault(idl: &Idl, before: &[Var], v: &Var) -> Option<Fault>
-    ensures { result ≡ fault_if (is_taken idl.now.ops (map var_of before.now) (name_of v.now.name).text) v.now.name.line CheckKind.Twice
+    ensures { result ≡ fault_if (is_taken idl.now.ops (map var_of before.now)
+        (name_of v.now.name).text) v.now.name.line CheckKind.Twice
         then fault_if (length (map var_of before.now) == 128) v.now.name.line CheckKind.TooMany }
 {
     let twice = fault_if(

@@ -37,12 +37,14 @@ fn tree_fault(tree: &Tree, idl: &Idl) -> Option<Fault>
         .or_else(|| body_fault(&tree.body, idl, &tree.vars))
 }
 
-/// Checks a program against the operations that it may call. On a fault both are given up. It takes no memory yet.
+/// Checks a program against the operations that it may call. On a fault both are given up. It takes
+/// no memory yet.
 pub fn check(_alloc: Global, tree: Tree, idl: Idl) -> Result<Checked, CheckErr>
     ensures program { IfOk result (λ c. program_in c ≡ program_of tree) }
     ensures operations { IfOk result (λ c. interface_in c ≡ idl) }
     ensures passed { IfOk result (λ c. fault_of idl.ops (program_of tree) ≡ None) }
-    ensures fault { (line : ℕ) (kind : CheckKind) → result ≡ Err (CheckErr.At line kind) → fault_of idl.ops (program_of tree) ≡ Some (record { line = line; kind = kind }) }
+    ensures fault { (line : ℕ) (kind : CheckKind) → result ≡ Err (CheckErr.At line kind)
+        → fault_of idl.ops (program_of tree) ≡ Some (record { line = line; kind = kind }) }
     ensures memory { result ≢ Err CheckErr.NoMemory }
 {
     match tree_fault(&tree, &idl) {

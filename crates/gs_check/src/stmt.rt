@@ -87,7 +87,8 @@ fn stmt_fault(s: &Stmt, idl: &Idl, vars: &[Var]) -> Option<Fault>
 // A condition, and the statements that it guards.
 #[cycle(statements)]
 fn guarded_fault(body: &[Stmt], cond: &Expr, idl: &Idl, vars: &[Var]) -> Option<Fault>
-    ensures { result ≡ term_fault (map var_of vars.now) VarKind.Int (term_of cond.now) then codes_fault idl.now.ops (map var_of vars.now) (codes_of body.now) }
+    ensures { result ≡ term_fault (map var_of vars.now) VarKind.Int (term_of cond.now)
+        then codes_fault idl.now.ops (map var_of vars.now) (codes_of body.now) }
 {
     expr_fault(cond, vars, VarKind::Int).or(body_fault(body, idl, vars))
 }
@@ -95,7 +96,8 @@ fn guarded_fault(body: &[Stmt], cond: &Expr, idl: &Idl, vars: &[Var]) -> Option<
 // What stands after an `else`, where one stands.
 #[cycle(statements)]
 fn else_fault(no: &Option<Vec<Stmt>>, idl: &Idl, vars: &[Var]) -> Option<Fault>
-    ensures { MatchOption no.now (result ≡ None) (λ body. result ≡ codes_fault idl.now.ops (map var_of vars.now) (codes_of body.items)) }
+    ensures { MatchOption no.now (result ≡ None) (λ body. result ≡ codes_fault idl.now.ops
+        (map var_of vars.now) (codes_of body.items)) }
 {
     match no {
         Some(body) => body_fault(body, idl, vars),
@@ -110,7 +112,9 @@ fn head_fault(
     step: &Option<Assign>,
     vars: &[Var],
 ) -> Option<Fault>
-    ensures { result ≡ maybe_setting_fault (map var_of vars.now) (option_map setting_of first.now) then maybe_term_fault (map var_of vars.now) VarKind.Int (option_map term_of cond.now) then maybe_setting_fault (map var_of vars.now) (option_map setting_of step.now) }
+    ensures { result ≡ maybe_setting_fault (map var_of vars.now) (option_map setting_of first.now)
+        then maybe_term_fault (map var_of vars.now) VarKind.Int (option_map term_of cond.now)
+        then maybe_setting_fault (map var_of vars.now) (option_map setting_of step.now) }
 {
     let head = maybe_setting_fault(first, vars).or(maybe_expr_fault(cond, vars, VarKind::Int));
     head.or(maybe_setting_fault(step, vars))
@@ -118,14 +122,17 @@ fn head_fault(
 
 // The name and the path of a `GS_FOpen`.
 fn open_fault(to: &Ident, path: &Expr, vars: &[Var]) -> Option<Fault>
-    ensures { result ≡ name_fault (map var_of vars.now) VarKind.Handle (name_of to.now) then term_fault (map var_of vars.now) VarKind.Str (term_of path.now) }
+    ensures { result ≡ name_fault (map var_of vars.now) VarKind.Handle (name_of to.now)
+        then term_fault (map var_of vars.now) VarKind.Str (term_of path.now) }
 {
     name_fault(to, vars, VarKind::Handle).or(expr_fault(path, vars, VarKind::Str))
 }
 
 // The names of an `fgetline`.
 fn line_fault(got: &Ident, handle: &Ident, to: &Ident, vars: &[Var]) -> Option<Fault>
-    ensures { result ≡ name_fault (map var_of vars.now) VarKind.Int (name_of got.now) then name_fault (map var_of vars.now) VarKind.Handle (name_of handle.now) then name_fault (map var_of vars.now) VarKind.Str (name_of to.now) }
+    ensures { result ≡ name_fault (map var_of vars.now) VarKind.Int (name_of got.now)
+        then name_fault (map var_of vars.now) VarKind.Handle (name_of handle.now)
+        then name_fault (map var_of vars.now) VarKind.Str (name_of to.now) }
 {
     let first = name_fault(got, vars, VarKind::Int).or(name_fault(handle, vars, VarKind::Handle));
     first.or(name_fault(to, vars, VarKind::Str))

@@ -96,7 +96,8 @@ fn at(line: u32, kind: CheckKind) -> Option<CheckErr> {
     Some(CheckErr::At { line, kind })
 }
 
-// An argument as it is written: `1`, `"F"`, a name, the sum of a name and `1`, `"F" + 1`, and a name after `&`.
+// An argument as it is written: `1`, `"F"`, a name, the sum of a name and `1`, `"F" + 1`, and a
+// name after `&`.
 #[derive(Clone, Copy)]
 enum Given {
     Number,
@@ -355,7 +356,8 @@ fn an_expression_is_refused_at_its_first_leaf(rt: HostRuntime) -> Result<(), Fai
     Ok(())
 }
 
-// The three variables with another on line 30, an initial assignment on line 20, and a task call on line 10.
+// The three variables with another on line 30, an initial assignment on line 20, and a task call on
+// line 10.
 fn three_parts(alloc: Global, other: &[u8], value: &[u8]) -> Result<Tree, NoMemory> {
     let mut vars = variables(alloc)?;
     vars.push(var(alloc, 30, other, VarKind::Int)?)?;

@@ -11,8 +11,8 @@ use Rattle.gs_disk.specs.declared.disk.DiskErr.TheVariants.{Fault, Memory}
 abbrev pub Folder : Type 0
 Folder = List ℕ → Option (List ℕ)
 
--- a disk as clauses see it: the folder as it reads, what a crash may leave, and how many faults and memory refusals it
--- had
+-- a disk as clauses see it: the folder as it reads, what a crash may leave, and how many faults and
+-- memory refusals it had
 pub record DiskState : Type 1 where
   pub folder : Folder
   -- a number that doesn't fall
@@ -44,7 +44,8 @@ pub record Torn (at n : ℕ) (old new : List ℕ) : Type 0 where
   pub no_longer : at + n ≤ length old → length new ≡ length old
 
 abbrev pub TornFile : ℕ → ℕ → Option (List ℕ) → Option (List ℕ) → Type 0
-TornFile at n old new = MatchOption old (new ≡ None) (λ bytes. (torn : List ℕ) × (new ≡ Some torn) × Torn at n bytes torn)
+TornFile at n old new = MatchOption old (new ≡ None) (λ bytes. (torn : List ℕ) × (new ≡ Some torn)
+    × Torn at n bytes torn)
 
 pub record Tears (name : List ℕ) (at n : ℕ) (old new : Folder) : Type 0 where
   pub others : KeepsOthers (name ∷ []) old new
@@ -54,13 +55,16 @@ pub record Tears (name : List ℕ) (at n : ℕ) (old new : Folder) : Type 0 wher
 abbrev pub overwritten : ℕ → List ℕ → List ℕ → List ℕ
 overwritten at bytes old = take at old ++ bytes ++ drop (at + length bytes) old
 
--- a write of n bytes may begin here: the file is present and at least so long, and no byte comes past 2^40
+-- a write of n bytes may begin here: the file is present and at least so long, and no byte comes
+-- past 2^40
 abbrev pub MayWrite : ℕ → ℕ → Option (List ℕ) → Type 0
 MayWrite at n file = MatchOption file ⊥ (λ bytes. (at ≤ length bytes) × (at + n ≤ 2 ^ 40))
 
 -- n bytes from `at` on were read to the buffer's front
 abbrev pub IsRead : ℕ → ℕ → Option (List ℕ) → List ℕ → List ℕ → Type 0
-IsRead at n file old new = MatchOption file ((n ≡ 0) × (new ≡ old)) (λ bytes. (n ≡ min (length old) (length bytes - at)) × (new ≡ take n (drop at bytes) ++ drop n old))
+IsRead at n file old new = MatchOption file ((n ≡ 0) × (new ≡ old))
+    (λ bytes. (n ≡ min (length old) (length bytes - at))
+    × (new ≡ take n (drop at bytes) ++ drop n old))
 
 -- the counts don't fall, and an error has its cause
 pub record HasCause {T : Type 0} (old new : DiskState) (result : Result T DiskErr) : Type 0 where
@@ -69,7 +73,8 @@ pub record HasCause {T : Type 0} (old new : DiskState) (result : Result T DiskEr
 
 -- in rising order of bytes
 abbrev pub Rise : List (List ℕ) → Type 0
-Rise names = (i : ℕ) → i + 1 < length names → slice_cmp nat_cmp (slice_index_or names i []) (slice_index_or names (i + 1) []) ≡ Less
+Rise names = (i : ℕ) → i + 1 < length names → slice_cmp nat_cmp (slice_index_or names i [])
+    (slice_index_or names (i + 1) []) ≡ Less
 
 abbrev pub Has : List ℕ → List (List ℕ) → Type 0
 Has x names = (i : ℕ) × (i < length names) × (slice_index_or names i [] ≡ x)

@@ -45,14 +45,16 @@ names_of (Written name at len before end ∷ ts) = names_of ts
 abbrev pub ranges_of : List Touch → List Range
 ranges_of [] = []
 ranges_of (Renamed name before ∷ ts) = ranges_of ts
-ranges_of (Written name at len before end ∷ ts) = record { name = name; at = at; len = len } ∷ ranges_of ts
+ranges_of (Written name at len before end ∷ ts) = record { name = name; at = at; len = len }
+    ∷ ranges_of ts
 
 -- the name that a call touched
 abbrev pub touched_name : Touch → List ℕ
 touched_name (Renamed name before) = name
 touched_name (Written name at len before end) = name
 
--- the files at the last sync, of two of one name the first, and the names and ranges that were touched since
+-- the files at the last sync, of two of one name the first, and the names and ranges that were
+-- touched since
 pub record Done : Type 0 where
   pub synced : Files
   pub renamed : List (List ℕ)
@@ -78,7 +80,8 @@ with_range range d = record d { written = d.written ++ range ∷ [] }
 abbrev pub is_other : List ℕ → List ℕ → Bool
 is_other name x = not (bytes_eq name x)
 
--- a synced file of these bytes was put there, whatever was done to its name; what was done to other names stays
+-- a synced file of these bytes was put there, whatever was done to its name; what was done to other
+-- names stays
 abbrev pub with_file : List ℕ → List ℕ → Done → Done
 with_file name bytes d = record {
   synced = (name, bytes) ∷ d.synced;
@@ -89,7 +92,8 @@ with_file name bytes d = record {
 abbrev pub done_by : Since → Done
 done_by (Synced files) = settled (files_of files.value)
 done_by (Named' name s before) = with_name name (done_by before)
-done_by (Wrote' name at len s before) = with_range (record { name = name; at = at; len = len }) (done_by before)
+done_by (Wrote' name at len s before) = with_range (record { name = name; at = at; len = len })
+    (done_by before)
 done_by (Added' name bytes s before) = with_file name bytes.value.items (done_by before)
 
 -- what a disk in memory holds: the files as they read, and what was done since the last sync
@@ -120,10 +124,12 @@ behind (Then' was p before) = held_by was.value ∷ behind before
 -- a crash at some moment behind, from the given one on, might have left this
 abbrev pub LeftBehind : List Held → ℕ → Folder → Type 0
 LeftBehind [] t image = ⊥
-LeftBehind (was ∷ before) t image = ((t ≤ length before) × IsImage (unsynced_in was.done) (folder_of was.files) image) ⊎ LeftBehind before t image
+LeftBehind (was ∷ before) t image = ((t ≤ length before)
+    × IsImage (unsynced_in was.done) (folder_of was.files) image) ⊎ LeftBehind before t image
 
--- `past` is what it held before each call that might change it, `failing` are the numbers of the calls that are to fail, `asked` is the number of calls since they were given, and
--- `working` is how many calls are left before the disk stops, where it is to stop
+-- `past` is what it held before each call that might change it, `failing` are the numbers of the
+-- calls that are to fail, `asked` is the number of calls since they were given, and `working` is
+-- how many calls are left before the disk stops, where it is to stop
 pub record MemState : Type 0 where
   pub files : Files
   pub done : Done
@@ -145,14 +151,25 @@ abbrev pub as_disk : MemState → DiskState
 as_disk s = record {
   folder = folder_of s.files;
   moment = length s.past;
-  left_since = λ t image. IsImage (unsynced s) (folder_of s.files) image ⊎ LeftBehind s.past t image;
+  left_since = λ t image. IsImage (unsynced s) (folder_of s.files) image
+      ⊎ LeftBehind s.past t image;
   faults = s.faults;
   refusals = s.refusals;
 }
 
 -- a disk of which no call was made, with these files synced
 abbrev pub fresh : Files → MemState
-fresh files = record { files = files; done = settled files; past = []; failing = []; asked = 0; working = None; calls = 0; faults = 0; refusals = 0 }
+fresh files = record {
+  files = files;
+  done = settled files;
+  past = [];
+  failing = [];
+  asked = 0;
+  working = None;
+  calls = 0;
+  faults = 0;
+  refusals = 0;
+}
 
 -- what is counted, and which calls are to fail
 pub record CallState : Type 0 where
@@ -198,7 +215,8 @@ pub record IsCall {T : Type 0} (old new : MemState) (result : Result T DiskErr) 
   pub counts : Counts (as_disk old) (as_disk new) result
   pub idle : OnErr result (new.files ≡ old.files)
 
--- this was done since the last sync, and a crash at the moment before may have left what was told then
+-- this was done since the last sync, and a crash at the moment before may have left what was told
+-- then
 pub record Notes (done : Done) (old new : MemState) : Type 0 where
   pub done_is : new.done ≡ done
   pub behind : new.past ≡ held_in old ∷ old.past

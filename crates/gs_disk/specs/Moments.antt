@@ -22,7 +22,8 @@ Comes step old image = (before : Folder) × Leaves old before × step before ima
 pub record Passes (step : Folder → Folder → Type 0) (old new : DiskState) : Type 0 where
   pub later : old.moment ≤ new.moment
   -- also for who began earlier
-  pub since : (t : ℕ) (image : Folder) → t ≤ old.moment → new.left_since t image → old.left_since t image ⊎ Comes step old image
+  pub since : (t : ℕ) (image : Folder) → t ≤ old.moment → new.left_since t image
+      → old.left_since t image ⊎ Comes step old image
   pub now : (image : Folder) → Leaves new image → Comes step old image
 
 -- each image at any moment since old has P
@@ -30,10 +31,13 @@ pub record Always (P : Folder → Type 0) (old new : DiskState) : Type 0 where
   pub later : old.moment ≤ new.moment
   pub each : (image : Folder) → new.left_since old.moment image → P image
   -- also for who began earlier
-  pub since : (t : ℕ) (image : Folder) → t ≤ old.moment → new.left_since t image → old.left_since t image ⊎ P image
+  pub since : (t : ℕ) (image : Folder) → t ≤ old.moment → new.left_since t image
+      → old.left_since t image ⊎ P image
   pub now : (image : Folder) → Leaves new image → P image
 
--- no image is forgotten: what was told stays told, and an image now counts as left since each earlier moment
+-- no image is forgotten: what was told stays told, and an image now counts as left since each
+-- earlier moment
 pub record Remembers (old new : DiskState) : Type 0 where
-  pub keeps : (t : ℕ) (image : Folder) → t ≤ old.moment → old.left_since t image → new.left_since t image
+  pub keeps : (t : ℕ) (image : Folder) → t ≤ old.moment → old.left_since t image
+      → new.left_since t image
   pub counts : (t : ℕ) (image : Folder) → t ≤ new.moment → Leaves new image → new.left_since t image

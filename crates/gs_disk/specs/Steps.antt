@@ -15,12 +15,15 @@ use Rattle.gs_disk.specs.declared.now.Now.{Now}
 abbrev pub Undone : Touch → Folder → Folder → Type 0
 Undone (Renamed name before) newer older = Puts name (option_map (λ v. v.items) before) newer older
 Undone (Written name at len before end) newer older =
-    (file : List ℕ) × (newer name ≡ Some file) × (at + length before.items ≤ end) × (end ≤ length file) × Puts name (Some (overwritten at before.items (take end file))) newer older
+    (file : List ℕ) × (newer name ≡ Some file) × (at + length before.items ≤ end)
+    × (end ≤ length file) × Puts name (Some (overwritten at before.items (take end file))) newer
+    older
 
 -- with these calls undone, the last of them first, the newest folder is that of the sync
 abbrev pub LeadBack : List Touch → Folder → Folder → Type 0
 LeadBack [] newest synced = synced ≡ newest
-LeadBack (t ∷ ts) newest synced = (older : Folder) × LeadBack ts newest older × Undone t older synced
+LeadBack (t ∷ ts) newest synced = (older : Folder) × LeadBack ts newest older
+    × Undone t older synced
 
 -- the calls that were kept are all that was done since the last sync, and they lead back to it
 pub record TellsAll (now : Now) : Type 0 where
@@ -28,7 +31,8 @@ pub record TellsAll (now : Now) : Type 0 where
   pub ranges : ranges_of now.touched.items ≡ (done_of now).written
   pub leads : LeadBack now.touched.items (reads now) (unsynced_of now).synced
 
--- all is told where each call was kept, and what reads differs from the folder of the sync only as an image may
+-- all is told where each call was kept, and what reads differs from the folder of the sync only as
+-- an image may
 pub record IsSound (now : Now) : Type 0 where
   pub whole : IsTrue now.is_whole → TellsAll now
   pub stands : IsLeft (unsynced_of now) (reads now)
@@ -58,16 +62,19 @@ pub record KeepsRange (name : List ℕ) (at len : ℕ) (old new : Now) : Type 0 
   pub stood : reads old name ≡ Some file
   pub before : Vec ℕ Global
   pub part : before.items ≡ take len (drop at file)
-  pub touched : new.touched.items ≡ old.touched.items ++ Written name at len before (length file) ∷ []
+  pub touched : new.touched.items ≡ old.touched.items ++ Written name at len before (length file)
+      ∷ []
 
 -- a range of a file that stands was touched, and its bytes are these, or nothing changed
 pub record Writes (name : List ℕ) (at : ℕ) (bytes : List ℕ) (old new : Now) : Type 0 where
   pub file : List ℕ
   pub stood : reads old name ≡ Some file
   pub room : at ≤ length file
-  pub done : done_of new ≡ with_range (record { name = name; at = at; len = length bytes }) (done_of old)
+  pub done : done_of new ≡ with_range (record { name = name; at = at; len = length bytes })
+      (done_of old)
   pub kept : IsTrue new.is_whole → IsTrue old.is_whole × KeepsRange name at (length bytes) old new
-  pub change : (files_of new.files ≡ files_of old.files) ⊎ Puts name (Some (overwritten at bytes file)) (reads old) (reads new)
+  pub change : (files_of new.files ≡ files_of old.files)
+      ⊎ Puts name (Some (overwritten at bytes file)) (reads old) (reads new)
 
 -- a synced file was put there, and what was done to its name is forgotten
 pub record Adds (name bytes : List ℕ) (old new : Now) : Type 0 where
@@ -80,4 +87,5 @@ pub record Adds (name bytes : List ℕ) (old new : Now) : Type 0 where
 abbrev pub LeavesBy : Keep → List Touch → Folder → Folder → Type 0
 LeavesBy Nothing ts reads left = LeadBack ts reads left
 LeavesBy All ts reads left = left ≡ reads
-LeavesBy (Byte b) ts reads left = HasByte b (record { synced = reads; renamed = names_of ts; written = ranges_of ts }) reads left
+LeavesBy (Byte b) ts reads left = HasByte b
+    (record { synced = reads; renamed = names_of ts; written = ranges_of ts }) reads left

@@ -10,7 +10,8 @@ use Rattle.gs_disk.specs.declared.whole.Whole.TheVariants.{Absent, TooLong, Read
 -- this is the answer at a file that may be so long, with the bytes that were read
 abbrev pub IsWhole : Option (List ℕ) → ℕ → List ℕ → Whole → Type 0
 IsWhole file limit bytes Absent = file ≡ None
-IsWhole file limit bytes (TooLong len) = (long : List ℕ) × (file ≡ Some long) × (len ≡ length long) × (limit < len)
+IsWhole file limit bytes (TooLong len) = (long : List ℕ) × (file ≡ Some long) × (len ≡ length long)
+    × (limit < len)
 IsWhole file limit bytes (Read len) = (file ≡ Some bytes) × (len ≡ length bytes) × (len ≤ limit)
 
 -- the same of any disk, also one that does not tell its folder: only a `Read` changes the bytes

@@ -27,12 +27,26 @@ impl Model for Calls {
 
     ghost Value = { CallState };
 
-    ghost view = { λ c. record { failing = c.failing.items; asked = c.asked; working = c.working; calls = c.calls; faults = c.faults; refusals = c.refusals } };
+    ghost view = { λ c. record {
+      failing = c.failing.items;
+      asked = c.asked;
+      working = c.working;
+      calls = c.calls;
+      faults = c.faults;
+      refusals = c.refusals;
+    } };
 }
 
 impl Calls {
     pub fn new(alloc: Global) -> Calls
-        ensures { result ≡ record { failing = []; asked = 0; working = None; calls = 0; faults = 0; refusals = 0 } }
+        ensures { result ≡ record {
+          failing = [];
+          asked = 0;
+          working = None;
+          calls = 0;
+          faults = 0;
+          refusals = 0;
+        } }
     {
         Calls {
             failing: Vec::new(alloc),

@@ -10,8 +10,8 @@ use crate::{DiskName, files};
 use std::alloc::{AllocError, Global};
 use std::collections::BTreeMap;
 
-/// Which image a crash leaves: the folder at the last sync, the folder as it reads, or one byte in each free
-/// place.
+/// Which image a crash leaves: the folder at the last sync, the folder as it reads, or one byte in
+/// each free place.
 #[derive(Clone, Copy, Debug, PartialEq, Eq)]
 pub enum Keep {
     Nothing,
@@ -22,7 +22,8 @@ pub enum Keep {
 /// Undoes a call.
 fn undo(files: &mut BTreeMap<DiskName, Vec<u8>>, touch: Touch) -> Result<(), AllocError>
     requires { (older : Folder) × Undone touch (folder_of (files_of files.old)) older }
-    ensures { OnOk result (Undone touch (folder_of (files_of files.old)) (folder_of (files_of files.new))) }
+    ensures { OnOk result (Undone touch (folder_of (files_of files.old))
+        (folder_of (files_of files.new))) }
 {
     match touch {
         Touch::Renamed { name, before } => match before {
@@ -51,7 +52,8 @@ pub fn undo_all(
     mut touched: Vec<Touch>,
 ) -> Result<(), AllocError>
     requires { (synced : Folder) × LeadBack touched.items (folder_of (files_of files.old)) synced }
-    ensures { OnOk result (LeadBack touched.items (folder_of (files_of files.old)) (folder_of (files_of files.new))) }
+    ensures { OnOk result (LeadBack touched.items (folder_of (files_of files.old))
+        (folder_of (files_of files.new))) }
 {
     while let Some(touch) = touched.pop() {
         undo(files, touch)?;
@@ -61,7 +63,8 @@ pub fn undo_all(
 
 /// Fills the range that a call wrote, as far as the file goes.
 fn fill_range(files: &mut BTreeMap<DiskName, Vec<u8>>, touch: &Touch, b: u8)
-    ensures { (x : List ℕ) → FillsFile (ranges_of (touch.now ∷ [])) x b (folder_of (files_of files.old) x) (folder_of (files_of files.new) x) }
+    ensures { (x : List ℕ) → FillsFile (ranges_of (touch.now ∷ [])) x b
+        (folder_of (files_of files.old) x) (folder_of (files_of files.new) x) }
 {
     match touch {
         Touch::Written { name, at, len, .. } => files::fill(files, name, *at, *len, b),
@@ -71,7 +74,8 @@ fn fill_range(files: &mut BTreeMap<DiskName, Vec<u8>>, touch: &Touch, b: u8)
 
 /// Fills the ranges that were written, as far as the files go.
 pub fn fill_ranges(files: &mut BTreeMap<DiskName, Vec<u8>>, touched: &[Touch], b: u8)
-    ensures { (x : List ℕ) → FillsFile (ranges_of touched.now) x b (folder_of (files_of files.old) x) (folder_of (files_of files.new) x) }
+    ensures { (x : List ℕ) → FillsFile (ranges_of touched.now) x b
+        (folder_of (files_of files.old) x) (folder_of (files_of files.new) x) }
 {
     for touch in touched {
         fill_range(files, touch, b);
@@ -85,8 +89,10 @@ fn fill_name(
     touch: &Touch,
     b: u8,
 ) -> Result<(), AllocError>
-    ensures named { OnOk result ((x : List ℕ) → (Outside (names_of (touch.now ∷ [])) x → ⊥) → folder_of (files_of files.new) x ≡ Some (b ∷ [])) }
-    ensures others { OnOk result ((x : List ℕ) → Outside (names_of (touch.now ∷ [])) x → folder_of (files_of files.new) x ≡ folder_of (files_of files.old) x) }
+    ensures named { OnOk result ((x : List ℕ) → (Outside (names_of (touch.now ∷ [])) x → ⊥)
+        → folder_of (files_of files.new) x ≡ Some (b ∷ [])) }
+    ensures others { OnOk result ((x : List ℕ) → Outside (names_of (touch.now ∷ [])) x
+        → folder_of (files_of files.new) x ≡ folder_of (files_of files.old) x) }
 {
     match touch {
         Touch::Renamed { name, .. } => {
@@ -104,8 +110,10 @@ pub fn fill_names(
     touched: &[Touch],
     b: u8,
 ) -> Result<(), AllocError>
-    ensures named { OnOk result ((x : List ℕ) → (Outside (names_of touched.now) x → ⊥) → folder_of (files_of files.new) x ≡ Some (b ∷ [])) }
-    ensures others { OnOk result ((x : List ℕ) → Outside (names_of touched.now) x → folder_of (files_of files.new) x ≡ folder_of (files_of files.old) x) }
+    ensures named { OnOk result ((x : List ℕ) → (Outside (names_of touched.now) x → ⊥)
+        → folder_of (files_of files.new) x ≡ Some (b ∷ [])) }
+    ensures others { OnOk result ((x : List ℕ) → Outside (names_of touched.now) x
+        → folder_of (files_of files.new) x ≡ folder_of (files_of files.old) x) }
 {
     for touch in touched {
         fill_name(alloc, files, touch, b)?;
@@ -121,7 +129,8 @@ pub fn leave(
     keep: Keep,
 ) -> Result<(), AllocError>
     requires { (synced : Folder) × LeadBack touched.items (folder_of (files_of files.old)) synced }
-    ensures { OnOk result (LeavesBy keep touched.items (folder_of (files_of files.old)) (folder_of (files_of files.new))) }
+    ensures { OnOk result (LeavesBy keep touched.items (folder_of (files_of files.old))
+        (folder_of (files_of files.new))) }
 {
     match keep {
         Keep::Nothing => undo_all(files, touched),

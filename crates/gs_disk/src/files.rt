@@ -16,7 +16,8 @@ pub fn put(
     name: DiskName,
     bytes: Vec<u8>,
 ) -> Result<(), AllocError>
-    ensures put { OnOk result (Puts name (Some bytes.items) (folder_of (files_of files.old)) (folder_of (files_of files.new))) }
+    ensures put { OnOk result (Puts name (Some bytes.items) (folder_of (files_of files.old))
+        (folder_of (files_of files.new))) }
     ensures refused { OnErr result (files_of files.new ≡ files_of files.old) }
 {
     files.insert(name, bytes)?;
@@ -90,8 +91,11 @@ pub fn write(
     bytes: &[u8],
 ) -> Result<(), AllocError>
     requires { IfSome (folder_of (files_of files.old) name.now) (λ file. at ≤ length file) }
-    ensures written { OnOk result (IfSome (folder_of (files_of files.old) name.now) (λ file. Puts name.now (Some (overwritten at bytes.now file)) (folder_of (files_of files.old)) (folder_of (files_of files.new)))) }
-    ensures absent { folder_of (files_of files.old) name.now ≡ None → files_of files.new ≡ files_of files.old }
+    ensures written { OnOk result (IfSome (folder_of (files_of files.old) name.now)
+        (λ file. Puts name.now (Some (overwritten at bytes.now file))
+        (folder_of (files_of files.old)) (folder_of (files_of files.new)))) }
+    ensures absent { folder_of (files_of files.old) name.now ≡ None
+        → files_of files.new ≡ files_of files.old }
     ensures refused { OnErr result (files_of files.new ≡ files_of files.old) }
 {
     match files.get_mut(name) {
@@ -118,7 +122,8 @@ pub fn names(
     alloc: Global,
     files: &BTreeMap<DiskName, Vec<u8>>,
 ) -> Result<Vec<DiskName>, AllocError>
-    ensures all { IfOk result (λ names. (x : List ℕ) → Has x names.items ↔ IsSome (folder_of (files_of files.now) x)) }
+    ensures all { IfOk result (λ names. (x : List ℕ)
+        → Has x names.items ↔ IsSome (folder_of (files_of files.now) x)) }
     ensures rising { IfOk result (λ names. Rise names.items) }
 {
     let names = copied_names(alloc, files)?;
@@ -131,7 +136,8 @@ pub fn copy(
     files: &BTreeMap<DiskName, Vec<u8>>,
     name: &DiskName,
 ) -> Result<Option<Vec<u8>>, AllocError>
-    ensures { IfOk result (λ copy. option_map (λ v. v.items) copy ≡ folder_of (files_of files.now) name.now) }
+    ensures { IfOk result (λ copy. option_map (λ v. v.items) copy
+        ≡ folder_of (files_of files.now) name.now) }
 {
     match get(files, name) {
         Some(bytes) => Ok(Some(Vec::from_slice(alloc, bytes)?)),
@@ -149,7 +155,8 @@ pub fn part(alloc: Global, file: &[u8], at: usize, len: usize) -> Result<Vec<u8>
     Ok(part)
 }
 
-/// Makes a file's bytes what they were before a write: cuts it at its old end, and puts the bytes back.
+/// Makes a file's bytes what they were before a write: cuts it at its old end, and puts the bytes
+/// back.
 fn restore(file: &mut Vec<u8>, at: usize, before: &[u8], end: usize)
     requires { (at + length before.now ≤ end) × (end ≤ length file.old.items) }
     ensures { file.new.items ≡ overwritten at before.now (take end file.old.items) }
@@ -166,8 +173,11 @@ pub fn unwrite(
     before: &[u8],
     end: usize,
 )
-    requires { IfSome (folder_of (files_of files.old) name.now) (λ file. (at + length before.now ≤ end) × (end ≤ length file)) }
-    ensures { IfSome (folder_of (files_of files.old) name.now) (λ file. Puts name.now (Some (overwritten at before.now (take end file))) (folder_of (files_of files.old)) (folder_of (files_of files.new))) }
+    requires { IfSome (folder_of (files_of files.old) name.now)
+        (λ file. (at + length before.now ≤ end) × (end ≤ length file)) }
+    ensures { IfSome (folder_of (files_of files.old) name.now)
+        (λ file. Puts name.now (Some (overwritten at before.now (take end file)))
+        (folder_of (files_of files.old)) (folder_of (files_of files.new))) }
 {
     match files.get_mut(name) {
         Some(file) => restore(file, at, before, end),
@@ -178,8 +188,10 @@ pub fn unwrite(
 /// Sets a range of a file to one byte, as far as the file goes.
 fn fill_file(file: &mut Vec<u8>, at: usize, len: usize, b: u8)
     ensures long { length file.new.items ≡ length file.old.items }
-    ensures kept { (k : ℕ) → k < length file.old.items → (k < at) ⊎ (at + len ≤ k) → slice_index file.new.items k ≡ slice_index file.old.items k }
-    ensures filled { (k : ℕ) → k < length file.old.items → at ≤ k → k < at + len → slice_index file.new.items k ≡ b }
+    ensures kept { (k : ℕ) → k < length file.old.items → (k < at) ⊎ (at + len ≤ k)
+        → slice_index file.new.items k ≡ slice_index file.old.items k }
+    ensures filled { (k : ℕ) → k < length file.old.items → at ≤ k → k < at + len
+        → slice_index file.new.items k ≡ b }
 {
     let start = at.min(file.len());
     let end = start + len.min(file.len() - start);
@@ -188,8 +200,10 @@ fn fill_file(file: &mut Vec<u8>, at: usize, len: usize, b: u8)
 
 /// The same at the file of a name.
 pub fn fill(files: &mut BTreeMap<DiskName, Vec<u8>>, name: &DiskName, at: usize, len: usize, b: u8)
-    ensures others { (x : List ℕ) → x ≢ name.now → folder_of (files_of files.new) x ≡ folder_of (files_of files.old) x }
-    ensures here { FillsRange at len b (folder_of (files_of files.old) name.now) (folder_of (files_of files.new) name.now) }
+    ensures others { (x : List ℕ) → x ≢ name.now → folder_of (files_of files.new) x
+        ≡ folder_of (files_of files.old) x }
+    ensures here { FillsRange at len b (folder_of (files_of files.old) name.now)
+        (folder_of (files_of files.new) name.now) }
 {
     match files.get_mut(name) {
         Some(file) => fill_file(file, at, len, b),

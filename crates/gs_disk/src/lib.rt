@@ -1,5 +1,5 @@
-//! The folder that `gs` works in, as a trait that says what a crash may leave, such a folder in memory, and
-//! reading a file whole.
+//! The folder that `gs` works in, as a trait that says what a crash may leave, such a folder in
+//! memory, and reading a file whole.
 #![tactic(auto)]
 
 mod calls;

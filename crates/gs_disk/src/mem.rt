@@ -81,16 +81,24 @@ impl MemDisk {
         }
     }
 
-    /// Puts a synced file there, in place of one of that name: it reads so in every image from now on. What
-    /// was done to other names stays unsynced. It counts no call, and fails only with `Memory`; then nothing
-    /// has changed.
+    /// Puts a synced file there, in place of one of that name: it reads so in every image from now
+    /// on. What was done to other names stays unsynced. It counts no call, and fails only with
+    /// `Memory`; then nothing has changed.
     pub fn add(&mut self, name: DiskName, bytes: &[u8]) -> Result<(), DiskErr>
-        ensures put { OnOk result (Puts name (Some bytes.now) (folder_of self.old.files) (folder_of self.new.files)) }
-        ensures synced { OnOk result (EachNow (λ image. image name ≡ Some bytes.now) (as_disk self.new)) }
-        ensures noted { OnOk result (Notes (with_file name bytes.now self.old.done) self.old self.new) }
-        ensures images { OnOk result (Passes (KeepsOthers (name ∷ [])) (as_disk self.old) (as_disk self.new)) }
+        ensures put { OnOk result (Puts name (Some bytes.now) (folder_of self.old.files)
+            (folder_of self.new.files)) }
+        ensures synced { OnOk result (EachNow (λ image. image name ≡ Some bytes.now)
+            (as_disk self.new)) }
+        ensures noted { OnOk result (Notes (with_file name bytes.now self.old.done) self.old
+            self.new) }
+        ensures images { OnOk result (Passes (KeepsOthers (name ∷ [])) (as_disk self.old)
+            (as_disk self.new)) }
         ensures remembers { OnOk result (Remembers (as_disk self.old) (as_disk self.new)) }
-        ensures rest { self.new ≡ record self.old { files = self.new.files; done = self.new.done; past = self.new.past } }
+        ensures rest { self.new ≡ record self.old {
+          files = self.new.files;
+          done = self.new.done;
+          past = self.new.past;
+        } }
         ensures refused { OnErr result (self.new ≡ self.old) }
         ensures memory { IsErrOf result Fault → ⊥ }
     {
@@ -105,14 +113,17 @@ impl MemDisk {
         Ok(())
     }
 
-    /// An image that a crash may leave, as a synced disk on which no call was made and none is to fail. With
-    /// `Keep::Nothing` it is the folder at the last sync, with `Keep::All` the folder as it reads. With
-    /// `Keep::Byte` each name that was created or removed since has the one byte, and each other file its
-    /// length as it reads, with that byte wherever it was written since. It fails only with `Memory`, also
-    /// where a call since the last sync found no memory to keep what it changed.
+    /// An image that a crash may leave, as a synced disk on which no call was made and none is to
+    /// fail. With `Keep::Nothing` it is the folder at the last sync, with `Keep::All` the folder as
+    /// it reads. With `Keep::Byte` each name that was created or removed since has the one byte,
+    /// and each other file its length as it reads, with that byte wherever it was written since. It
+    /// fails only with `Memory`, also where a call since the last sync found no memory to keep what
+    /// it changed.
     pub fn crash(self, keep: Keep) -> Result<MemDisk, DiskErr>
-        ensures kept { IfOk result (λ left. IsKept keep (unsynced self) (folder_of self.files) (folder_of left.files)) }
-        ensures image { IfOk result (λ left. IsImage (unsynced self) (folder_of self.files) (folder_of left.files)) }
+        ensures kept { IfOk result (λ left. IsKept keep (unsynced self) (folder_of self.files)
+            (folder_of left.files)) }
+        ensures image { IfOk result (λ left. IsImage (unsynced self) (folder_of self.files)
+            (folder_of left.files)) }
         ensures synced { IfOk result (λ left. left ≡ fresh left.files) }
         ensures memory { IsErrOf result Fault → ⊥ }
     {
@@ -132,16 +143,17 @@ impl MemDisk {
         }
     }
 
-    /// From now on, those calls of `Disk` fail with `Fault` and do nothing whose number is listed. The next
-    /// call has the number 1.
+    /// From now on, those calls of `Disk` fail with `Fault` and do nothing whose number is listed.
+    /// The next call has the number 1.
     pub fn fail_at(&mut self, calls: Vec<u64>)
         ensures { self.new ≡ record self.old { failing = calls.items; asked = 0 } }
     {
         self.calls.fail_at(calls);
     }
 
-    /// The next `k` calls of `Disk` work. The call after them is left in progress, and it and all later ones
-    /// answer `Fault`: nothing reads otherwise, but a crash may leave what each of them may do.
+    /// The next `k` calls of `Disk` work. The call after them is left in progress, and it and all
+    /// later ones answer `Fault`: nothing reads otherwise, but a crash may leave what each of them
+    /// may do.
     pub fn stop_after(&mut self, k: u64)
         ensures { self.new ≡ record self.old { working = Some k } }
     {
@@ -174,7 +186,8 @@ impl Disk for MemDisk {
     ghost reads_an_image = { λ told m. inl (inl refl) };
 
     fn len(&mut self, name: &DiskName) -> Result<Option<u64>, DiskErr>
-        ensures value { IfOk result (λ n. n ≡ option_map length (folder_of self.old.files name.now)) }
+        ensures value { IfOk result
+            (λ n. n ≡ option_map length (folder_of self.old.files name.now)) }
         ensures same { self.new.files ≡ self.old.files }
         ensures images { Passes Same (as_disk self.old) (as_disk self.new) }
         ensures remembers { Remembers (as_disk self.old) (as_disk self.new) }
@@ -191,7 +204,8 @@ impl Disk for MemDisk {
 
     fn read_into(&mut self, name: &DiskName, at: u64, buf: &mut [u8]) -> Result<usize, DiskErr>
         ensures within { IfOk result (λ n. n ≤ length buf.old) }
-        ensures value { IfOk result (λ n. IsRead at n (folder_of self.old.files name.now) buf.old buf.new) }
+        ensures value { IfOk result (λ n. IsRead at n (folder_of self.old.files name.now) buf.old
+            buf.new) }
         ensures same { self.new.files ≡ self.old.files }
         ensures images { Passes Same (as_disk self.old) (as_disk self.new) }
         ensures remembers { Remembers (as_disk self.old) (as_disk self.new) }
@@ -209,8 +223,10 @@ impl Disk for MemDisk {
 
     fn create(&mut self, name: &DiskName) -> Result<(), DiskErr>
         ensures made { OnOk result (folder_of self.new.files name.now ≡ Some []) }
-        ensures others { KeepsOthers (name.now ∷ []) (folder_of self.old.files) (folder_of self.new.files) }
-        ensures images { Passes (KeepsOthers (name.now ∷ [])) (as_disk self.old) (as_disk self.new) }
+        ensures others { KeepsOthers (name.now ∷ []) (folder_of self.old.files)
+            (folder_of self.new.files) }
+        ensures images { Passes (KeepsOthers (name.now ∷ [])) (as_disk self.old)
+            (as_disk self.new) }
         ensures remembers { Remembers (as_disk self.old) (as_disk self.new) }
         ensures cause { HasCause (as_disk self.old) (as_disk self.new) result }
         ensures call { IsCall self.old self.new result }
@@ -231,13 +247,18 @@ impl Disk for MemDisk {
 
     fn write(&mut self, name: &DiskName, at: u64, bytes: &[u8]) -> Result<(), DiskErr>
         requires { MayWrite at (length bytes.now) (folder_of self.old.files name.now) }
-        ensures written { OnOk result (IfSome (folder_of self.old.files name.now) (λ old. folder_of self.new.files name.now ≡ Some (overwritten at bytes.now old))) }
-        ensures torn { Tears name.now at (length bytes.now) (folder_of self.old.files) (folder_of self.new.files) }
-        ensures images { Passes (Tears name.now at (length bytes.now)) (as_disk self.old) (as_disk self.new) }
+        ensures written { OnOk result (IfSome (folder_of self.old.files name.now)
+            (λ old. folder_of self.new.files name.now ≡ Some (overwritten at bytes.now old))) }
+        ensures torn { Tears name.now at (length bytes.now) (folder_of self.old.files)
+            (folder_of self.new.files) }
+        ensures images { Passes (Tears name.now at (length bytes.now)) (as_disk self.old)
+            (as_disk self.new) }
         ensures remembers { Remembers (as_disk self.old) (as_disk self.new) }
         ensures cause { HasCause (as_disk self.old) (as_disk self.new) result }
         ensures call { IsCall self.old self.new result }
-        ensures noted { Notes (with_range (record { name = name.now; at = at; len = length bytes.now }) self.old.done) self.old self.new }
+        ensures noted { Notes (with_range
+            (record { name = name.now; at = at; len = length bytes.now }) self.old.done) self.old
+            self.new }
     {
         let was = Snapshot::of(&self.held);
         let fails = self.calls.is_failing();
@@ -254,14 +275,19 @@ impl Disk for MemDisk {
 
     fn remove(&mut self, name: &DiskName) -> Result<(), DiskErr>
         ensures gone { OnOk result (folder_of self.new.files name.now ≡ None) }
-        ensures others { KeepsOthers (name.now ∷ []) (folder_of self.old.files) (folder_of self.new.files) }
-        ensures absent { folder_of self.old.files name.now ≡ None → folder_of self.new.files name.now ≡ None }
-        ensures images { Passes (KeepsOthers (name.now ∷ [])) (as_disk self.old) (as_disk self.new) }
-        ensures idle { folder_of self.old.files name.now ≡ None → Passes Same (as_disk self.old) (as_disk self.new) }
+        ensures others { KeepsOthers (name.now ∷ []) (folder_of self.old.files)
+            (folder_of self.new.files) }
+        ensures absent { folder_of self.old.files name.now ≡ None
+            → folder_of self.new.files name.now ≡ None }
+        ensures images { Passes (KeepsOthers (name.now ∷ [])) (as_disk self.old)
+            (as_disk self.new) }
+        ensures idle { folder_of self.old.files name.now ≡ None
+            → Passes Same (as_disk self.old) (as_disk self.new) }
         ensures remembers { Remembers (as_disk self.old) (as_disk self.new) }
         ensures cause { HasCause (as_disk self.old) (as_disk self.new) result }
         ensures call { IsCall self.old self.new result }
-        ensures noted { Notes (with_removal name.now (folder_of self.old.files name.now) self.old.done) self.old self.new }
+        ensures noted { Notes (with_removal name.now (folder_of self.old.files name.now)
+            self.old.done) self.old self.new }
         ensures memory { IsErrOf result Memory → ⊥ }
     {
         let was = Snapshot::of(&self.held);
@@ -275,7 +301,8 @@ impl Disk for MemDisk {
     }
 
     fn names(&mut self, alloc: Global) -> Result<Vec<DiskName>, DiskErr>
-        ensures all { IfOk result (λ names. (x : List ℕ) → Has x names.items ↔ IsSome (folder_of self.old.files x)) }
+        ensures all { IfOk result (λ names. (x : List ℕ)
+            → Has x names.items ↔ IsSome (folder_of self.old.files x)) }
         ensures rising { IfOk result (λ names. Rise names.items) }
         ensures same { self.new.files ≡ self.old.files }
         ensures images { Passes Same (as_disk self.old) (as_disk self.new) }

@@ -14,7 +14,8 @@ pub enum Touch {
         name: DiskName,
         before: Option<Vec<u8>>,
     },
-    /// So many bytes were written from an offset on. These stood there before, in a file that ended so.
+    /// So many bytes were written from an offset on. These stood there before, in a file that ended
+    /// so.
     Written {
         name: DiskName,
         at: usize,
@@ -36,8 +37,8 @@ impl Touch {
     }
 }
 
-/// What was done since the last sync that succeeded, the last call in front. It is for proofs alone, and so
-/// no want of memory loses any of it.
+/// What was done since the last sync that succeeded, the last call in front. It is for proofs
+/// alone, and so no want of memory loses any of it.
 #[derive(Drop)]
 pub enum Since {
     /// The files at that sync.

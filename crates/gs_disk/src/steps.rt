@@ -1,6 +1,6 @@
-// The calls of a disk in memory, on what it holds. A call that isn't to work, or finds no memory, counts as
-// done, though nothing reads otherwise: noting it takes no memory. Only what undoes it does, and where that
-// isn't found, no crash is told until the next sync.
+// The calls of a disk in memory, on what it holds. A call that isn't to work, or finds no memory,
+// counts as done, though nothing reads otherwise: noting it takes no memory. Only what undoes it
+// does, and where that isn't found, no crash is told until the next sync.
 ghost use Rattle.std.specs.Prelude.{◌≡◌, ◌≤◌, ◌⊎◌, ℕ, List, [], ◌∷◌, length, true, false, IsTrue, None, Some, IsSome, OnOk, OnErr, IfSome};
 ghost use Rattle.gs_disk.specs.Folder.{MayWrite, overwritten};
 ghost use Rattle.gs_disk.specs.Mem.{files_of, reads, done_of, settled, with_name, with_range};
@@ -39,7 +39,8 @@ fn keep_name(alloc: Global, now: &mut Now, name: &DiskName) -> Result<(), AllocE
 /// Notes that a name is created or removed, with what stands there.
 fn note_name(alloc: Global, now: &mut Now, name: &DiskName)
     ensures done { done_of now.new ≡ with_name name.now (done_of now.old) }
-    ensures kept { IsTrue now.new.is_whole → IsTrue now.old.is_whole × KeepsName name.now now.old now.new }
+    ensures kept { IsTrue now.new.is_whole → IsTrue now.old.is_whole
+        × KeepsName name.now now.old now.new }
     ensures files { now.new.files ≡ now.old.files }
 {
     if let Err(_) = keep_name(alloc, now, name) {
@@ -108,8 +109,10 @@ fn keep_range(
 /// Notes that a range is written, with what stands there.
 fn note_range(alloc: Global, now: &mut Now, name: &DiskName, at: usize, len: usize)
     requires { MayWrite at len (reads now.old name.now) }
-    ensures done { done_of now.new ≡ with_range (record { name = name.now; at = at; len = len }) (done_of now.old) }
-    ensures kept { IsTrue now.new.is_whole → IsTrue now.old.is_whole × KeepsRange name.now at len now.old now.new }
+    ensures done { done_of now.new ≡ with_range (record { name = name.now; at = at; len = len })
+        (done_of now.old) }
+    ensures kept { IsTrue now.new.is_whole → IsTrue now.old.is_whole
+        × KeepsRange name.now at len now.old now.new }
     ensures files { now.new.files ≡ now.old.files }
 {
     if let Err(_) = keep_range(alloc, now, name, at, len) {
@@ -129,7 +132,9 @@ pub fn write(
 ) -> Result<(), AllocError>
     requires { MayWrite at (length bytes.now) (reads now.old name.now) }
     ensures went { Writes name.now at bytes.now now.old now.new }
-    ensures written { OnOk result (IsTrue works → IfSome (reads now.old name.now) (λ file. reads now.new name.now ≡ Some (overwritten at bytes.now file))) }
+    ensures written { OnOk result (IsTrue works
+        → IfSome (reads now.old name.now) (λ file. reads now.new name.now
+        ≡ Some (overwritten at bytes.now file))) }
     ensures idle { works ≡ false → files_of now.new.files ≡ files_of now.old.files }
     ensures refused { OnErr result (files_of now.new.files ≡ files_of now.old.files) }
 {

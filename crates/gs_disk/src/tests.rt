@@ -5,7 +5,8 @@ use std::alloc::Global;
 use std::test::Fail;
 
 fn make<D: Disk>(disk: &mut D, name: &DiskName) -> Result<(), DiskErr>
-    ensures { D.tells → OnOk result ((D.state disk.new).folder name.now ≡ Some (97 ∷ 98 ∷ 99 ∷ [])) }
+    ensures { D.tells → OnOk result ((D.state disk.new).folder name.now
+        ≡ Some (97 ∷ 98 ∷ 99 ∷ [])) }
 {
     disk.create(name)?;
     disk.write(name, 0, b"abc")?;

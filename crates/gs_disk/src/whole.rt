@@ -19,8 +19,9 @@ pub enum Whole {
     Read { len: u64 },
 }
 
-/// Reads a file of at most `limit` bytes. Only where it gives `Read` has `into` changed, and then it holds
-/// what was read. `Fault` is one of the disk; `Memory` may also be want of room for the bytes.
+/// Reads a file of at most `limit` bytes. Only where it gives `Read` has `into` changed, and then
+/// it holds what was read. `Fault` is one of the disk; `Memory` may also be want of room for the
+/// bytes.
 pub fn read_whole<D: Disk>(
     alloc: Global,
     disk: &mut D,
@@ -28,7 +29,8 @@ pub fn read_whole<D: Disk>(
     limit: u64,
     into: &mut Vec<u8>,
 ) -> Result<Whole, DiskErr>
-    ensures whole { D.tells → IfOk result (λ w. IsWhole ((D.state disk.old).folder name.now) limit into.new.items w) }
+    ensures whole { D.tells → IfOk result (λ w. IsWhole ((D.state disk.old).folder name.now) limit
+        into.new.items w) }
     ensures same { D.tells → (D.state disk.new).folder ≡ (D.state disk.old).folder }
     ensures images { D.tells → Passes Same (D.state disk.old) (D.state disk.new) }
     ensures carries { IfOk result (λ w. Carries limit into.old.items into.new.items w) }

@@ -9,7 +9,13 @@ pub record Told : Type 0 where
   pub refusals : ℕ
 
 abbrev pub as_disk : Told → DiskState
-as_disk t = record { folder = λ name. None; moment = 0; left_since = λ since image. ⊥; faults = t.faults; refusals = t.refusals }
+as_disk t = record {
+  folder = λ name. None;
+  moment = 0;
+  left_since = λ since image. ⊥;
+  faults = t.faults;
+  refusals = t.refusals;
+}
 
 -- the error was counted, and only it
 pub record IsNoted (old new : Told) (error : DiskErr) : Type 0 where

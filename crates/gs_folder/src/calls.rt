@@ -1,5 +1,5 @@
-// What std does with the files of the current directory. Only what `metadata` calls a file counts as
-// one: a sub-folder or a pipe of such a name is absent.
+// What std does with the files of the current directory. Only what `metadata` calls a file counts
+// as one: a sub-folder or a pipe of such a name is absent.
 ghost use Rattle.std.specs.Prelude.{◌≤◌, IfOk, length};
 
 use gs_disk::{DiskName, is_disk_name};
@@ -118,8 +118,8 @@ fn writer<R: Files>(
     })
 }
 
-/// Reads from the offset `at` on to the buffer's front, as much as there is and fits. The file is kept open;
-/// where this fails, none is.
+/// Reads from the offset `at` on to the buffer's front, as much as there is and fits. The file is
+/// kept open; where this fails, none is.
 pub fn read_at<R: Files>(
     rt: &R,
     kept: &mut Option<Open<R::File>>,
@@ -144,7 +144,8 @@ pub fn create<R: Files>(rt: &R, name: &DiskName) -> io::Result<()> {
     Ok(())
 }
 
-/// Writes from the offset `at` on. The file has to be there. It is kept open; where this fails, none is.
+/// Writes from the offset `at` on. The file has to be there. It is kept open; where this fails,
+/// none is.
 pub fn write_at<R: Files>(
     rt: &R,
     kept: &mut Option<Open<R::File>>,

@@ -14,10 +14,10 @@ use std::io::ErrorKind;
 use std::marker::Model;
 use std::rt::Files;
 
-/// The current directory. Each error of the system is counted: want of memory as a refusal, and any other
-/// as a fault. The file that was read last and the one that was written last stay open, so that to read or
-/// write on where the last call ended is one call of the system. They are closed where the file is created or
-/// removed, and where a call on them fails.
+/// The current directory. Each error of the system is counted: want of memory as a refusal, and any
+/// other as a fault. The file that was read last and the one that was written last stay open, so
+/// that to read or write on where the last call ended is one call of the system. They are closed
+/// where the file is created or removed, and where a call on them fails.
 #[derive(Drop)]
 pub struct Folder<R: Files + AllocGlobal + Clone + Drop> {
     rt: R,

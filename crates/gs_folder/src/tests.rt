@@ -8,8 +8,8 @@ use std::rt::Files;
 use std::test::Fail;
 use std::{fs, io};
 
-/// The system, but for a path at which each call fails. At `*` each call fails. Files that are opened are
-/// counted.
+/// The system, but for a path at which each call fails. At `*` each call fails. Files that are
+/// opened are counted.
 #[derive(Drop)]
 struct Failing<R: Files + Drop> {
     rt: R,

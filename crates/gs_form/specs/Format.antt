@@ -1,4 +1,5 @@
--- Internal to the proofs: formats, each with its spelling and a reader from the front. No clause of a public function names one.
+-- Internal to the proofs: formats, each with its spelling and a reader from the front. No clause of
+-- a public function names one.
 use Rattle.std.specs.Prelude.{ℕ, Bool, not, List, [], ◌∷◌, ◌++◌, length, take, drop, Option, Some, None, ◌==◌, if◌then◌else◌}
 use Rattle.std.specs.List.{list_any, prefix_len}
 use Rattle.std.specs.Str.{bytes_eq}
@@ -38,14 +39,25 @@ pub record Format (A : Type 0) : Type 1 where
 
 -- a literal text
 abbrev pub lit : List ℕ → Format (Unit {0})
-lit text = record { fits = λ _. Unit {0}; spell = λ _. text; read = λ b. strip text b >>= λ r. Some (tt, r) }
+lit text = record {
+  fits = λ _. Unit {0};
+  spell = λ _. text;
+  read = λ b. strip text b
+      >>= λ r. Some (tt, r);
+}
 
 -- a literal text and then the rest
 abbrev pub after : {A : Type 0} → List ℕ → Format A → Format A
-after text f = record { fits = f.fits; spell = λ a. text ++ f.spell a; read = λ b. strip text b >>= λ r. f.read r }
+after text f = record {
+  fits = f.fits;
+  spell = λ a. text ++ f.spell a;
+  read = λ b. strip text b
+      >>= λ r. f.read r;
+}
 
 -- bytes that pass a test, up to the first of the stops, and then the rest
-abbrev pub word : {B : Type 0} → List ℕ → (List ℕ → Type 0) → (List ℕ → Bool) → Format B → Format (List ℕ × B)
+abbrev pub word : {B : Type 0} → List ℕ → (List ℕ → Type 0) → (List ℕ → Bool) → Format B
+    → Format (List ℕ × B)
 word stops P ok f = record {
   fits = λ x. P x.0 × f.fits x.1;
   spell = λ x. x.0 ++ f.spell x.1;

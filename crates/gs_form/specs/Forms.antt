@@ -9,7 +9,8 @@ use Rattle.gs_form.specs.declared.worker.Worker.{Worker}
 use Rattle.gs_form.specs.Format.{Format, ◌>>=◌, byte_at, lit, after, word, pair, seen}
 
 unfoldable pub slots_at : List ℕ → Option (ℕ × List ℕ)
-slots_at b = byte_at b >>= λ x. if nat_le 49 x.0 && nat_le x.0 57 then Some (x.0 - 48, x.1) else None
+slots_at b = byte_at b >>= λ x. if nat_le 49 x.0 && nat_le x.0 57 then Some (x.0 - 48, x.1)
+    else None
 
 abbrev pub slots : Format ℕ
 slots = record { fits = λ n. (1 ≤ n) × (n ≤ 9); spell = λ n. (48 + n) ∷ []; read = slots_at }
@@ -32,7 +33,10 @@ abbrev pub get_worker : Worker → List ℕ × (ℕ × (List ℕ × Unit {0}))
 get_worker w = (w.name, (w.slots, (w.program, tt)))
 
 unfoldable pub worker : Format Worker
-worker = seen put_worker get_worker (λ _. Unit {0}) (word (codes " ") IsName is_name (after (codes " ") (pair slots (after (codes " ") (word (codes " ") IsPath is_path (lit (codes " *")))))))
+worker = seen put_worker get_worker (λ _. Unit {0})
+    (word (codes " ") IsName is_name
+    (after (codes " ") (pair slots
+    (after (codes " ") (word (codes " ") IsPath is_path (lit (codes " *")))))))
 
 -- nothing or one LF behind it
 abbrev pub ended_by_line : {A : Type 0} → A × List ℕ → Option A

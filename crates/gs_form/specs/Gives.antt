@@ -10,12 +10,14 @@ Fails Memory found = Unit {0}
 Fails NotForm found = found ≡ None
 
 -- It gave what reading finds, and the cursor stands behind it, unless memory ran out.
-abbrev pub Gives : {X Y : Type 0} → (X → Y) → List ℕ → Result X Failure → Option (Y × List ℕ) → Type 0
+abbrev pub Gives : {X Y : Type 0} → (X → Y) → List ℕ → Result X Failure → Option (Y × List ℕ)
+    → Type 0
 Gives view now (Ok x) found = found ≡ Some (view x, now)
 Gives view now (Err e) found = Fails e found
 
 -- The same, of a reading that takes no memory.
-abbrev pub Has : {X Y : Type 0} → (X → Y) → List ℕ → Result X Mismatch → Option (Y × List ℕ) → Type 0
+abbrev pub Has : {X Y : Type 0} → (X → Y) → List ℕ → Result X Mismatch → Option (Y × List ℕ)
+    → Type 0
 Has view now (Ok x) found = found ≡ Some (view x, now)
 Has view now (Err e) found = found ≡ None
 

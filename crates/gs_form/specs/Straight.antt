@@ -26,7 +26,8 @@ writes Makes = true
 
 -- it writes one of the two texts
 abbrev pub is_text : (idl_name program_name : List ℕ) → Place → Bool
-is_text idl_name program_name p = writes p.way && (bytes_eq p.name idl_name || bytes_eq p.name program_name)
+is_text idl_name program_name p = writes p.way
+    && (bytes_eq p.name idl_name || bytes_eq p.name program_name)
 
 abbrev pub both_write : Place → Place → Bool
 both_write p q = writes p.way && (writes q.way && bytes_eq p.name q.name)
@@ -38,7 +39,8 @@ apart clash (x ∷ xs) = not (list_any (clash x) xs) && apart clash xs
 
 -- neither of the two texts is written, and no file at two places
 abbrev pub is_sound : (idl_name program_name : List ℕ) → List Place → Bool
-is_sound idl_name program_name ps = not (list_any (is_text idl_name program_name) ps) && apart both_write ps
+is_sound idl_name program_name ps = not (list_any (is_text idl_name program_name) ps)
+    && apart both_write ps
 
 -- the string that a term is
 abbrev pub literal_of : Term → Option (List ℕ)
@@ -84,18 +86,24 @@ places_for [] (a ∷ more) = None
 places_for (p ∷ ps) [] = None
 places_for (p ∷ ps) (a ∷ more) = and_first (place_for p a) (places_for ps more)
 
-abbrev pub step_at : (idl_name program_name : List ℕ) → (op : List ℕ) → Option (List Place) → Option Step
+abbrev pub step_at : (idl_name program_name : List ℕ) → (op : List ℕ) → Option (List Place)
+    → Option Step
 step_at idl_name program_name op None = None
-step_at idl_name program_name op (Some places) = if is_sound idl_name program_name places then Some (record { op = op; places = places }) else None
+step_at idl_name program_name op (Some places) = if is_sound idl_name program_name places
+    then Some (record { op = op; places = places }) else None
 
 -- a call of the operation at this place
-abbrev pub step_by : List Signature → (idl_name program_name : List ℕ) → (place : Option ℕ) → (op : List ℕ) → List Passed → Option Step
+abbrev pub step_by : List Signature → (idl_name program_name : List ℕ) → (place : Option ℕ)
+    → (op : List ℕ) → List Passed → Option Step
 step_by ops idl_name program_name None op args = None
-step_by ops idl_name program_name (Some place) op args = step_at idl_name program_name op (places_for (params_at ops place) args)
+step_by ops idl_name program_name (Some place) op args = step_at idl_name program_name op
+    (places_for (params_at ops place) args)
 
 -- a call of one of the operations
-abbrev pub step_for : List Signature → (idl_name program_name : List ℕ) → Name → List Passed → Option Step
-step_for ops idl_name program_name op args = step_by ops idl_name program_name (op_place ops op.text) op.text args
+abbrev pub step_for : List Signature → (idl_name program_name : List ℕ) → Name → List Passed
+    → Option Step
+step_for ops idl_name program_name op args = step_by ops idl_name program_name
+    (op_place ops op.text) op.text args
 
 abbrev pub code_step : List Signature → (idl_name program_name : List ℕ) → Code → Option Step
 code_step ops idl_name program_name (call op args) = step_for ops idl_name program_name op args
@@ -113,9 +121,11 @@ code_step ops idl_name program_name (print line format args) = None
 code_step ops idl_name program_name (print_file line handle format args) = None
 code_step ops idl_name program_name (print_str line to format args) = None
 
-abbrev pub steps_for : List Signature → (idl_name program_name : List ℕ) → Codes → Option (List Step)
+abbrev pub steps_for : List Signature → (idl_name program_name : List ℕ) → Codes
+    → Option (List Step)
 steps_for ops idl_name program_name none = Some []
-steps_for ops idl_name program_name (one code rest) = and_first (code_step ops idl_name program_name code) (steps_for ops idl_name program_name rest)
+steps_for ops idl_name program_name (one code rest) = and_first
+    (code_step ops idl_name program_name code) (steps_for ops idl_name program_name rest)
 
 abbrev pub is_nothing : {A : Type 0} → List A → Bool
 is_nothing [] = true
@@ -130,5 +140,7 @@ at_most n None = None
 at_most n (Some xs) = if nat_le (length xs) n then Some xs else None
 
 -- its calls, where it is straight
-unfoldable pub straight_calls : Interface → (idl_name program_name : List ℕ) → Program → Option (List Step)
-straight_calls i idl_name program_name p = if is_bare p then at_most 10000 (steps_for i.ops idl_name program_name p.body) else None
+unfoldable pub straight_calls : Interface → (idl_name program_name : List ℕ) → Program
+    → Option (List Step)
+straight_calls i idl_name program_name p = if is_bare p
+    then at_most 10000 (steps_for i.ops idl_name program_name p.body) else None

@@ -1,5 +1,5 @@
-//! What `run` carries out for now: a straight program's calls, taken from its tree, and a worker list of one worker in
-//! a form that leaves no choice.
+//! What `run` carries out for now: a straight program's calls, taken from its tree, and a worker
+//! list of one worker in a form that leaves no choice.
 #![tactic(auto)]
 
 mod cursor;

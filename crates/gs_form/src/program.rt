@@ -132,7 +132,8 @@ fn file_named(e: &Expr) -> Option<Name>
 }
 
 fn place_for(dir: Dir, kind: ParamKind, argument: &Argument) -> Option<Place>
-    ensures { (p : Param) → p.dir ≡ dir → p.kind ≡ kind → result ≡ place_for p (passed_of argument.now) }
+    ensures { (p : Param) → p.dir ≡ dir → p.kind ≡ kind
+        → result ≡ place_for p (passed_of argument.now) }
 {
     match kind {
         ParamKind::File => match file_named(&argument.e) {
@@ -156,7 +157,8 @@ fn places_for(
 ) -> Result<Option<Sequence<Place>>, NoMemory>
     requires room { length args.now ≡ length (params_at idl.now.ops op) }
     requires few { length args.now < 256 }
-    ensures { IfOk result (λ places. places ≡ places_for (params_at idl.now.ops op) (map passed_of args.now)) }
+    ensures { IfOk result (λ places. places ≡ places_for (params_at idl.now.ops op)
+        (map passed_of args.now)) }
 {
     let mut places = Sequence::new(alloc);
     for j in 0..args.len() {
@@ -183,7 +185,8 @@ fn step_for(
     op: &Ident,
     args: &[Argument],
 ) -> Result<Option<Step>, NoMemory>
-    ensures { IfOk result (λ step. step ≡ step_for idl.now.ops idl_name.now program_name.now (name_of op.now) (map passed_of args.now)) }
+    ensures { IfOk result (λ step. step ≡ step_for idl.now.ops idl_name.now program_name.now
+        (name_of op.now) (map passed_of args.now)) }
 {
     let Some(i) = idl.find(&op.name) else {
         return Ok(None);
@@ -211,7 +214,8 @@ fn code_step(
     program_name: &Name,
     statement: &Stmt,
 ) -> Result<Option<Step>, NoMemory>
-    ensures { IfOk result (λ step. step ≡ code_step idl.now.ops idl_name.now program_name.now (code_of statement.now)) }
+    ensures { IfOk result (λ step. step ≡ code_step idl.now.ops idl_name.now program_name.now
+        (code_of statement.now)) }
 {
     match statement {
         Stmt::Call { op, args } => step_for(alloc, idl, idl_name, program_name, op, args),
@@ -226,7 +230,8 @@ fn steps_for(
     program_name: &Name,
     body: &[Stmt],
 ) -> Result<Option<Sequence<Step>>, NoMemory>
-    ensures { IfOk result (λ steps. steps ≡ steps_for idl.now.ops idl_name.now program_name.now (codes_of body.now)) }
+    ensures { IfOk result (λ steps. steps ≡ steps_for idl.now.ops idl_name.now program_name.now
+        (codes_of body.now)) }
 {
     let mut steps = Sequence::new(alloc);
     for statement in body {
@@ -244,9 +249,10 @@ fn is_bare(tree: &Tree) -> bool
     tree.vars.is_empty() && tree.first.is_empty()
 }
 
-/// The calls of a program that declares nothing and holds nothing but task calls, at most 10,000, of operations with
-/// File parameters alone, each argument a Name in quotes, where no call writes one of the two texts or one file twice;
-/// `None` exactly where the program is none such. The only error is want of memory.
+/// The calls of a program that declares nothing and holds nothing but task calls, at most 10,000,
+/// of operations with File parameters alone, each argument a Name in quotes, where no call writes
+/// one of the two texts or one file twice; `None` exactly where the program is none such. The only
+/// error is want of memory.
 #[tactic(auto, unfolding(crate::specs::Straight::straight_calls))]
 pub fn straight_calls(
     alloc: Global,
@@ -255,7 +261,8 @@ pub fn straight_calls(
     idl_name: &Name,
     program_name: &Name,
 ) -> Result<Option<Sequence<Step>>, NoMemory>
-    ensures calls { IfOk result (λ steps. steps ≡ straight_calls idl.now idl_name.now program_name.now (program_of tree.now)) }
+    ensures calls { IfOk result (λ steps. steps ≡ straight_calls idl.now idl_name.now
+        program_name.now (program_of tree.now)) }
     ensures few { IfOk result (λ steps. IfSome steps (λ s. length s ≤ 10000)) }
 {
     if !is_bare(tree) {

@@ -12,7 +12,8 @@ use crate::words::next_name;
 use gs_types::{Blob, Name, NoMemory};
 use std::alloc::Global;
 
-/// A worker: its name, how many tasks it runs at once, from 1 to 9, and its program's path, of 1 to 200 bytes.
+/// A worker: its name, how many tasks it runs at once, from 1 to 9, and its program's path, of 1 to
+/// 200 bytes.
 #[derive(Drop)]
 pub struct Worker {
     pub name: Name,
@@ -90,8 +91,8 @@ fn whole_worker(alloc: Global, bytes: &[u8]) -> Result<Worker, Failure>
     }
 }
 
-/// Reads a worker list of one worker in the straight form, of at most 65,536 bytes. `None` exactly where the
-/// bytes spell no valid worker. The only error is want of memory.
+/// Reads a worker list of one worker in the straight form, of at most 65,536 bytes. `None` exactly
+/// where the bytes spell no valid worker. The only error is want of memory.
 pub fn read_worker(alloc: Global, bytes: &[u8]) -> Result<Option<Worker>, NoMemory>
     ensures says { IfOk result (λ o. IfSome o (λ w. SaysWorker bytes.now w)) }
     ensures exact { IfOk result (λ o. (w : Worker) → SaysWorker bytes.now w → o ≡ Some w) }

@@ -6,8 +6,8 @@ use Rattle.gs_idl.specs.Lexicon.{IdlSign, bad, finish}
 use Rattle.gs_idl.specs.Grammar.{refused}
 use Rattle.gs_idl.specs.Machine.{State, start, step, broken, judge, stepped, unless, go, goes, Fed, Text, Fault, moved, whole, run}
 use Rattle.gs_idl.specs.Reading.{sign_at, IsNoWord, IsNotNamed, IsNotPassed, IsLast, Halts, Ends, Reads}
-use Rattle.gs_idl.specs.declared.reader.Stop.{Stop}
-use Rattle.gs_idl.specs.declared.reader.Stop.TheVariants as r
+use Rattle.gs_idl.specs.declared.passing.Stop.{Stop}
+use Rattle.gs_idl.specs.declared.passing.Stop.TheVariants as r
 use Rattle.gs_idl.specs.declared.token.IdlKind.{IdlKind}
 use Rattle.gs_idl.specs.declared.token.IdlKind.TheVariants.{Unexpected}
 

@@ -34,14 +34,16 @@ params_signs lead [] = []
 params_signs lead (p ∷ ps) = lead ∷ (param_signs p ++ params_signs (symbol Comma) ps)
 
 abbrev pub op_signs : Signature → List IdlSign
-op_signs o = word (codes "void") ∷ word o.name ∷ (params_signs (symbol OpenParen) o.params ++ symbol CloseParen ∷ symbol Semicolon ∷ [])
+op_signs o = word (codes "void") ∷ word o.name ∷ (params_signs (symbol OpenParen) o.params
+    ++ symbol CloseParen ∷ symbol Semicolon ∷ [])
 
 abbrev pub ops_signs : List Signature → List IdlSign
 ops_signs [] = []
 ops_signs (o ∷ os) = op_signs o ++ ops_signs os
 
 abbrev pub interface_signs : Interface → List IdlSign
-interface_signs i = word (codes "interface") ∷ word i.name ∷ symbol OpenBrace ∷ (ops_signs i.ops ++ symbol CloseBrace ∷ [])
+interface_signs i = word (codes "interface") ∷ word i.name ∷ symbol OpenBrace
+    ∷ (ops_signs i.ops ++ symbol CloseBrace ∷ [])
 
 -- at least one operation, and at least one parameter of each
 pub record IsFilled (i : Interface) : Type 0 where
@@ -50,8 +52,10 @@ pub record IsFilled (i : Interface) : Type 0 where
 
 -- the signs up to the end are those of this interface, whatever rules it breaks
 pub data IsText : List IdlSign → Interface → Type 0 where
-  plain : (ts : List IdlSign) (i : Interface) → IsFilled i → ts ≡ interface_signs i ++ finish ∷ [] → IsText ts i
-  ended : (ts : List IdlSign) (i : Interface) → IsFilled i → ts ≡ interface_signs i ++ symbol Semicolon ∷ finish ∷ [] → IsText ts i
+  plain : (ts : List IdlSign) (i : Interface) → IsFilled i → ts ≡ interface_signs i ++ finish ∷ []
+      → IsText ts i
+  ended : (ts : List IdlSign) (i : Interface) → IsFilled i → ts ≡ interface_signs i
+      ++ symbol Semicolon ∷ finish ∷ [] → IsText ts i
 
 -- ---- the rules, and the place of the sign that breaks one, from 0
 
@@ -64,14 +68,20 @@ abbrev pub dir_place : List Signature → ℕ → ℕ → ℕ
 dir_place os j a = name_place os j + 2 + 4 * a
 
 pub data Breaks : Interface → ℕ → IdlKind → Type 0 where
-  many_ops : (i : Interface) (k : ℕ) → 64 < length i.ops → k ≡ name_place i.ops 64 → Breaks i k TooMany
-  many_params : (i : Interface) (k j : ℕ) (o : Signature) → slice_get i.ops j ≡ Some o → 16 < length o.params → k ≡ dir_place i.ops j 16 → Breaks i k TooMany
-  op_twice : (i : Interface) (k j b : ℕ) (o p : Signature) → slice_get i.ops j ≡ Some o → slice_get i.ops b ≡ Some p → j < b → o.name ≡ p.name
+  many_ops : (i : Interface) (k : ℕ) → 64 < length i.ops → k ≡ name_place i.ops 64
+      → Breaks i k TooMany
+  many_params : (i : Interface) (k j : ℕ) (o : Signature) → slice_get i.ops j ≡ Some o
+      → 16 < length o.params → k ≡ dir_place i.ops j 16 → Breaks i k TooMany
+  op_twice : (i : Interface) (k j b : ℕ) (o p : Signature) → slice_get i.ops j ≡ Some o
+      → slice_get i.ops b ≡ Some p → j < b → o.name ≡ p.name
       → k ≡ name_place i.ops b → Breaks i k Twice
-  param_twice : (i : Interface) (k j a b : ℕ) (o : Signature) (p q : Param) → slice_get i.ops j ≡ Some o → slice_get o.params a ≡ Some p → slice_get o.params b ≡ Some q
+  param_twice : (i : Interface) (k j a b : ℕ) (o : Signature) (p q : Param)
+      → slice_get i.ops j ≡ Some o → slice_get o.params a ≡ Some p → slice_get o.params b ≡ Some q
       → a < b → p.name ≡ q.name → k ≡ dir_place i.ops j b + 2 → Breaks i k Twice
-  reserved : (i : Interface) (k j : ℕ) (o : Signature) → slice_get i.ops j ≡ Some o → is_keyword o.name ≡ true → k ≡ name_place i.ops j → Breaks i k Reserved
-  combination : (i : Interface) (k j a : ℕ) (o : Signature) (p : Param) → slice_get i.ops j ≡ Some o → slice_get o.params a ≡ Some p → p.dir ≡ Both → p.kind ≢ File
+  reserved : (i : Interface) (k j : ℕ) (o : Signature) → slice_get i.ops j ≡ Some o
+      → is_keyword o.name ≡ true → k ≡ name_place i.ops j → Breaks i k Reserved
+  combination : (i : Interface) (k j a : ℕ) (o : Signature) (p : Param) → slice_get i.ops j ≡ Some o
+      → slice_get o.params a ≡ Some p → p.dir ≡ Both → p.kind ≢ File
       → k ≡ dir_place i.ops j a + 1 → Breaks i k BadCombination
 
 abbrev pub IsSound : Interface → Type 0
@@ -110,7 +120,8 @@ pub record IsRefused (ts : List IdlSign) (k : ℕ) (sign : IdlSign) (kind : IdlK
   pub no_beginning : ¬ IsBeginning (take (k + 1) ts)
   pub is : kind ≡ refused sign
 
--- the signs up to this place begin a text in which the sign here breaks this rule, and none that counts before
+-- the signs up to this place begin a text in which the sign here breaks this rule, and none that
+-- counts before
 pub record BreaksHere (ts : List IdlSign) (k : ℕ) (kind : IdlKind) : Type 0 where
   pub more : List IdlSign
   pub interface : Interface
@@ -132,8 +143,11 @@ pub record IsFaultAt (ts : List IdlSign) (k : ℕ) (kind : IdlKind) : Type 0 whe
   pub before : IsRight ts k
   pub why : IsRefused ts k sign kind ⊎ BreaksHere ts k kind
 
--- no interface is said, and this is the first fault: the text is too long, or its marks go wrong at a place on this line
+-- no interface is said, and this is the first fault: the text is too long, or its marks go wrong at
+-- a place on this line
 pub data IsFault : List ℕ → (line : ℕ) → IdlKind → Type 0 where
   too_long : (bytes : List ℕ) → 65536 < length bytes → IsFault bytes 0 TooLong
-  wrong : (bytes : List ℕ) (marks : List IdlMark) (k : ℕ) (mark : IdlMark) (kind : IdlKind) → length bytes ≤ 65536 → Reads 1 bytes marks → slice_get marks k ≡ Some mark
-      → IsFaultAt (signs_of marks) k kind → ((i : Interface) → Says bytes i → ⊥) → IsFault bytes mark.line kind
+  wrong : (bytes : List ℕ) (marks : List IdlMark) (k : ℕ) (mark : IdlMark) (kind : IdlKind)
+      → length bytes ≤ 65536 → Reads 1 bytes marks → slice_get marks k ≡ Some mark
+      → IsFaultAt (signs_of marks) k kind → ((i : Interface) → Says bytes i → ⊥)
+      → IsFault bytes mark.line kind

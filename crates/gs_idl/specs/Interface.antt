@@ -43,12 +43,15 @@ pub record IsSized (i : Interface) : Type 0 where
 
 -- the parameters of one operation have different names, and an `inout` one is a file
 pub record KeepParamRules (ps : List Param) : Type 0 where
-  pub apart : (a b : ℕ) (p q : Param) → slice_get ps a ≡ Some p → slice_get ps b ≡ Some q → p.name ≡ q.name → a ≡ b
+  pub apart : (a b : ℕ) (p q : Param) → slice_get ps a ≡ Some p → slice_get ps b ≡ Some q
+      → p.name ≡ q.name → a ≡ b
   pub files : (a : ℕ) (p : Param) → slice_get ps a ≡ Some p → p.dir ≡ Both → p.kind ≡ File
 
--- operations have different names, none of them a keyword of a main program, and of each the parameters keep their rules
+-- operations have different names, none of them a keyword of a main program, and of each the
+-- parameters keep their rules
 pub record KeepRules (os : List Signature) : Type 0 where
-  pub apart : (a b : ℕ) (o p : Signature) → slice_get os a ≡ Some o → slice_get os b ≡ Some p → o.name ≡ p.name → a ≡ b
+  pub apart : (a b : ℕ) (o p : Signature) → slice_get os a ≡ Some o → slice_get os b ≡ Some p
+      → o.name ≡ p.name → a ≡ b
   pub free : (a : ℕ) (o : Signature) → slice_get os a ≡ Some o → is_keyword o.name ≡ false
   pub params : (a : ℕ) (o : Signature) → slice_get os a ≡ Some o → KeepParamRules o.params
 

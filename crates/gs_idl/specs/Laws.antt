@@ -10,4 +10,5 @@ SaysOne = (bytes : List ℕ) (i j : Interface) → Says bytes i → Says bytes j
 
 -- the printed form of what a text says, where it isn't too long, says the same
 abbrev pub PrintsBack : Type 0
-PrintsBack = (bytes : List ℕ) (i : Interface) → Says bytes i → length (printed i) ≤ 65536 → Says (printed i) i
+PrintsBack = (bytes : List ℕ) (i : Interface) → Says bytes i → length (printed i) ≤ 65536
+    → Says (printed i) i

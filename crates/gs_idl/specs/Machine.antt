@@ -15,7 +15,8 @@ use Rattle.gs_idl.specs.declared.token.Symbol.TheVariants.{OpenBrace, CloseBrace
 use Rattle.gs_idl.specs.declared.token.IdlKind.{IdlKind}
 use Rattle.gs_idl.specs.declared.token.IdlKind.TheVariants.{TooMany, Twice, Reserved, BadCombination, Unexpected}
 
--- what was read: the interface's name, the operations, the name of the one that is begun, its parameters, and the parts of the next
+-- what was read: the interface's name, the operations, the name of the one that is begun, its
+-- parameters, and the parts of the next
 pub data State : Type 0 where
   start : State
   at_title : State
@@ -25,7 +26,8 @@ pub data State : Type 0 where
   at_paren : (x : List ℕ) (os : List Signature) (f : List ℕ) → State
   at_dir : (x : List ℕ) (os : List Signature) (f : List ℕ) (ps : List Param) → State
   at_kind : (x : List ℕ) (os : List Signature) (f : List ℕ) (ps : List Param) (d : Dir) → State
-  at_param : (x : List ℕ) (os : List Signature) (f : List ℕ) (ps : List Param) (d : Dir) (k : ParamKind) → State
+  at_param : (x : List ℕ) (os : List Signature) (f : List ℕ) (ps : List Param) (d : Dir)
+      (k : ParamKind) → State
   at_sep : (x : List ℕ) (os : List Signature) (f : List ℕ) (ps : List Param) → State
   at_semi : (x : List ℕ) (os : List Signature) (f : List ℕ) (ps : List Param) → State
   closed : (x : List ℕ) (os : List Signature) → State
@@ -39,10 +41,12 @@ abbrev pub op_by : List ℕ → List Param → Signature
 op_by f ps = record { name = f; params = ps }
 
 abbrev pub dir_of : List ℕ → Option Dir
-dir_of w = if bytes_eq w (codes "in") then Some Input else if bytes_eq w (codes "inout") then Some Both else if bytes_eq w (codes "out") then Some Output else None
+dir_of w = if bytes_eq w (codes "in") then Some Input else if bytes_eq w (codes "inout")
+    then Some Both else if bytes_eq w (codes "out") then Some Output else None
 
 abbrev pub kind_of : List ℕ → Option ParamKind
-kind_of w = if bytes_eq w (codes "File") then Some File else if bytes_eq w (codes "int") then Some Int else if bytes_eq w (codes "string") then Some Str else None
+kind_of w = if bytes_eq w (codes "File") then Some File else if bytes_eq w (codes "int")
+    then Some Int else if bytes_eq w (codes "string") then Some Str else None
 
 abbrev pub where_is : List ℕ → List ℕ → State → Option State
 where_is wanted w s = if bytes_eq w wanted then Some s else None
@@ -74,7 +78,8 @@ abbrev pub has_param : List ℕ → List Param → Bool
 has_param w ps = list_any (λ p. bytes_eq w p.name) ps
 
 abbrev pub name_rule : List Signature → List ℕ → Option IdlKind
-name_rule os w = if nat_le 64 (length os) then Some TooMany else if has_op w os then Some Twice else if is_keyword w then Some Reserved else None
+name_rule os w = if nat_le 64 (length os) then Some TooMany else if has_op w os then Some Twice
+    else if is_keyword w then Some Reserved else None
 
 abbrev pub is_clash : Dir → ParamKind → Bool
 is_clash Both Int = true

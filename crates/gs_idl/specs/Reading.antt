@@ -12,8 +12,8 @@ use Rattle.gs_idl.specs.declared.token.Token.{Token}
 use Rattle.gs_idl.specs.declared.token.IdlKind.TheVariants.{Unexpected}
 use Rattle.gs_idl.specs.declared.reader.IdlErr.{IdlErr}
 use Rattle.gs_idl.specs.declared.reader.IdlErr.TheVariants as e
-use Rattle.gs_idl.specs.declared.reader.Stop.{Stop}
-use Rattle.gs_idl.specs.declared.reader.Stop.TheVariants as r
+use Rattle.gs_idl.specs.declared.passing.Stop.{Stop}
+use Rattle.gs_idl.specs.declared.passing.Stop.TheVariants as r
 
 abbrev pub signs : List Token → List IdlSign
 signs ts = map (λ t. sign_of t.sign) ts
@@ -28,7 +28,8 @@ sign_at gs n = sign_or_bad (slice_get gs n)
 
 -- another sign than this stands here, and is refused
 abbrev pub IsNotPassed : List IdlSign → ℕ → ℕ → IdlSign → Stop → Type 0
-IsNotPassed gs n m wanted (r.Fault kind) = (sign_at gs n ≢ wanted) × (m ≡ n) × (kind ≡ refused (sign_at gs n))
+IsNotPassed gs n m wanted (r.Fault kind) = (sign_at gs n ≢ wanted) × (m ≡ n)
+    × (kind ≡ refused (sign_at gs n))
 IsNotPassed gs n m wanted r.Memory = ⊥
 
 -- this sign stands here and is passed, or another stands here
@@ -61,7 +62,8 @@ Halts gs n s m (r.Fault kind) = run n s (drop n gs) ≡ Fault m kind
 Halts gs n s m r.Memory = Unit {0}
 
 -- reading goes on from a state and a place to others, or stops
-abbrev pub Moves : {T : Type 0} → List IdlSign → ℕ → State → ℕ → (T → State) → Result T Stop → Type 0
+abbrev pub Moves : {T : Type 0} → List IdlSign → ℕ → State → ℕ → (T → State) → Result T Stop
+    → Type 0
 Moves gs n s m t (Ok v) = run n s (drop n gs) ≡ run m (t v) (drop m gs)
 Moves gs n s m t (Err stop) = Halts gs n s m stop
 

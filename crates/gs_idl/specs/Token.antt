@@ -39,6 +39,9 @@ IsBeginning what (b ∷ rest) = begins b rest ≡ what
 
 -- the marks of the bytes on this line are those of the piece, and then those of what follows it
 abbrev pub Cuts : (line : ℕ) → List ℕ → Piece → Type 0
-Cuts line bytes (Passed next rest) = ((ms : List IdlMark) → Reads next rest.now ms → Reads line bytes ms) × (length rest.now < length bytes) × (next + length rest.now ≤ line + length bytes)
-Cuts line bytes (Found token rest) = ((ms : List IdlMark) → Reads line rest.now ms → Reads line bytes (mark_of token ∷ ms)) × (length rest.now < length bytes)
+Cuts line bytes (Passed next rest) = ((ms : List IdlMark) → Reads next rest.now ms
+    → Reads line bytes ms) × (length rest.now < length bytes)
+    × (next + length rest.now ≤ line + length bytes)
+Cuts line bytes (Found token rest) = ((ms : List IdlMark) → Reads line rest.now ms
+    → Reads line bytes (mark_of token ∷ ms)) × (length rest.now < length bytes)
 Cuts line bytes (Last token) = Reads line bytes (mark_of token ∷ [])

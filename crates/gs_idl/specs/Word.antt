@@ -20,8 +20,10 @@ pub record IsWord (w : List ℕ) : Type 0 where
 
 abbrev pub keywords : List (List ℕ)
 keywords =
-    codes "main" ∷ codes "int" ∷ codes "char" ∷ codes "FILE" ∷ codes "void" ∷ codes "if" ∷ codes "else" ∷ codes "while" ∷ codes "for" ∷ codes "return"
-    ∷ codes "GS_On" ∷ codes "GS_Off" ∷ codes "GS_Barrier" ∷ codes "GS_FOpen" ∷ codes "GS_FClose" ∷ codes "printf" ∷ codes "fprintf" ∷ codes "sprintf"
+    codes "main" ∷ codes "int" ∷ codes "char" ∷ codes "FILE" ∷ codes "void" ∷ codes "if"
+    ∷ codes "else" ∷ codes "while" ∷ codes "for" ∷ codes "return"
+    ∷ codes "GS_On" ∷ codes "GS_Off" ∷ codes "GS_Barrier" ∷ codes "GS_FOpen" ∷ codes "GS_FClose"
+    ∷ codes "printf" ∷ codes "fprintf" ∷ codes "sprintf"
     ∷ codes "fgetline" ∷ codes "atoi" ∷ codes "strcmp" ∷ codes "R" ∷ codes "W" ∷ codes "A" ∷ []
 
 unfoldable pub is_keyword : List ℕ → Bool

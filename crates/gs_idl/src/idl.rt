@@ -108,8 +108,10 @@ impl Idl {
     /// The direction and the kind of a parameter of an operation.
     pub fn param(&self, op: u8, i: u8) -> (Dir, ParamKind)
         requires { i < length (params_at self.now.ops op) }
-        ensures dir { option_map (λ p. p.dir) (slice_get (params_at self.now.ops op) i) ≡ Some result.0 }
-        ensures kind { option_map (λ p. p.kind) (slice_get (params_at self.now.ops op) i) ≡ Some result.1 }
+        ensures dir { option_map (λ p. p.dir) (slice_get (params_at self.now.ops op) i)
+            ≡ Some result.0 }
+        ensures kind { option_map (λ p. p.kind) (slice_get (params_at self.now.ops op) i)
+            ≡ Some result.1 }
     {
         let param = &params_of(self.ops.as_slice(), op as usize)[i as usize];
         (param.dir, param.kind)

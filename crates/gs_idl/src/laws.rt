@@ -7,7 +7,8 @@ pub fn says_one()
     ensures { SaysOne }
 {}
 
-/// The printed form of what a text says is read back as the same, where it has at most 65,536 bytes.
+/// The printed form of what a text says is read back as the same, where it has at most 65,536
+/// bytes.
 pub fn prints_back()
     ensures { PrintsBack }
 {}

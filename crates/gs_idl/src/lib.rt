@@ -5,6 +5,7 @@ mod idl;
 mod keyword;
 pub mod laws;
 mod memory;
+mod passing;
 mod printer;
 mod reader;
 #[cfg(test)]

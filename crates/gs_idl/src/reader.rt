@@ -10,118 +10,9 @@ ghost use Rattle.gs_idl.specs.Reading.{signs, sign_at, IsStanding, IsPassed, IsN
 
 use crate::idl::{Dir, Idl, Operation, ParamKind, Parameter};
 use crate::keyword::is_keyword;
+use crate::passing::{Stop, copied, pass_symbol, pass_word, refused, sign_at, word_at};
 use crate::token::{IdlKind, IdlSign, Symbol, Token, tokens};
-use std::alloc::{AllocError, AllocFailed, Global};
-
-/// Why reading stopped at the next sign.
-#[derive(Clone, Copy, Debug, PartialEq, Eq)]
-pub(crate) enum Stop {
-    Fault { kind: IdlKind },
-    Memory,
-}
-
-impl From<AllocError> for Stop {
-    ghost use Rattle.std.specs.Prelude.{◌≡◌};
-    ghost use Rattle.gs_idl.specs.declared.reader.Stop.TheVariants.{Memory};
-
-    ghost from_gives = { λ _ e. e ≡ Memory };
-
-    fn from(_e: AllocError) -> Stop {
-        Stop::Memory
-    }
-}
-
-impl<T: Drop> From<AllocFailed<T>> for Stop {
-    ghost use Rattle.std.specs.Prelude.{◌≡◌};
-    ghost use Rattle.gs_idl.specs.declared.reader.Stop.TheVariants.{Memory};
-
-    ghost from_gives = { λ _ e. e ≡ Memory };
-
-    fn from(_e: AllocFailed<T>) -> Stop {
-        Stop::Memory
-    }
-}
-
-/// The sign at a place. Behind the last one stands nothing that may be read.
-fn sign_at<'a>(tokens: &[Token<'a>], at: usize) -> IdlSign<'a>
-    ensures value { sign_of result ≡ sign_at (signs tokens.now) at }
-    ensures within { IsStanding result → at < length tokens.now }
-{
-    match tokens.get(at) {
-        Some(token) => token.sign,
-        None => IdlSign::Bad {
-            kind: IdlKind::Unexpected,
-        },
-    }
-}
-
-fn refused(sign: &IdlSign) -> Stop
-    ensures { result ≡ Stop.Fault (refused (sign_of sign.now)) }
-{
-    match sign {
-        IdlSign::Bad { kind } => Stop::Fault { kind: *kind },
-        IdlSign::Word { text: _ } => Stop::Fault {
-            kind: IdlKind::Unexpected,
-        },
-        IdlSign::Symbol { symbol: _ } => Stop::Fault {
-            kind: IdlKind::Unexpected,
-        },
-        IdlSign::End => Stop::Fault {
-            kind: IdlKind::Unexpected,
-        },
-    }
-}
-
-/// Passes over this symbol.
-fn pass_symbol(tokens: &[Token], at: &mut usize, wanted: Symbol) -> Result<(), Stop>
-    ensures passed { IsPassed (signs tokens.now) at.old at.new (symbol wanted) result }
-    ensures within { OnOk result (at.old < length tokens.now) }
-{
-    let sign = sign_at(tokens, *at);
-    match sign {
-        IdlSign::Symbol { symbol } if symbol == wanted => {
-            *at += 1;
-            Ok(())
-        }
-        _ => Err(refused(&sign)),
-    }
-}
-
-/// Passes over this word.
-fn pass_word(tokens: &[Token], at: &mut usize, wanted: &[u8]) -> Result<(), Stop>
-    ensures passed { IsPassed (signs tokens.now) at.old at.new (word wanted.now) result }
-    ensures within { OnOk result (at.old < length tokens.now) }
-{
-    let sign = sign_at(tokens, *at);
-    match sign {
-        IdlSign::Word { text } if text == wanted => {
-            *at += 1;
-            Ok(())
-        }
-        _ => Err(refused(&sign)),
-    }
-}
-
-/// The word that stands here.
-fn word_at<'a>(tokens: &[Token<'a>], at: usize) -> Result<&'a [u8], Stop>
-    ensures named { IsNamed (signs tokens.now) at result }
-    ensures within { OnOk result (at < length tokens.now) }
-{
-    let sign = sign_at(tokens, at);
-    match sign {
-        IdlSign::Word { text } => Ok(text),
-        _ => Err(refused(&sign)),
-    }
-}
-
-fn copied(alloc: Global, word: &[u8]) -> Result<Vec<u8>, Stop>
-    ensures { MatchResult result (λ v. v.items ≡ word.now) (λ stop. stop ≡ Stop.Memory) }
-{
-    match word.to_vec(alloc) {
-        Ok(name) => Ok(name),
-        Err(_) => Err(Stop::Memory),
-    }
-}
+use std::alloc::Global;
 
 fn read_title(alloc: Global, tokens: &[Token], at: &mut usize) -> Result<Vec<u8>, Stop>
     ensures moves { Moves (signs tokens.now) at.old start at.new (λ v. at_ops v.items []) result }
@@ -201,7 +92,9 @@ fn has_param(name: &[u8], params: &[Parameter]) -> bool
 
 /// The direction of the parameter behind so many.
 fn pass_dir(tokens: &[Token], at: &mut usize, count: usize) -> Result<Dir, Stop>
-    ensures moves { (x : List ℕ) (os : List Signature) (f : List ℕ) (ps : List Param) → length ps ≡ count → Moves (signs tokens.now) at.old (at_dir x os f ps) at.new (λ d. at_kind x os f ps d) result }
+    ensures moves { (x : List ℕ) (os : List Signature) (f : List ℕ) (ps : List Param)
+        → length ps ≡ count → Moves (signs tokens.now) at.old (at_dir x os f ps) at.new
+        (λ d. at_kind x os f ps d) result }
     ensures few { OnOk result (count < 16) }
     ensures within { OnOk result ((at.old < length tokens.now) × (at.new ≡ at.old + 1)) }
 {
@@ -225,7 +118,9 @@ fn pass_dir(tokens: &[Token], at: &mut usize, count: usize) -> Result<Dir, Stop>
 
 /// The kind of a parameter of this direction.
 fn pass_kind(tokens: &[Token], at: &mut usize, dir: Dir) -> Result<ParamKind, Stop>
-    ensures moves { (x : List ℕ) (os : List Signature) (f : List ℕ) (ps : List Param) → Moves (signs tokens.now) at.old (at_kind x os f ps dir) at.new (λ k. at_param x os f ps dir k) result }
+    ensures moves { (x : List ℕ) (os : List Signature) (f : List ℕ) (ps : List Param)
+        → Moves (signs tokens.now) at.old (at_kind x os f ps dir) at.new
+        (λ k. at_param x os f ps dir k) result }
     ensures within { OnOk result ((at.old < length tokens.now) × (at.new ≡ at.old + 1)) }
 {
     let word = match word_at(tokens, *at) {
@@ -253,7 +148,9 @@ fn pass_param_name(
     at: &mut usize,
     params: &[Parameter],
 ) -> Result<Vec<u8>, Stop>
-    ensures moves { (x : List ℕ) (os : List Signature) (f : List ℕ) (d : Dir) (k : ParamKind) → Moves (signs tokens.now) at.old (at_param x os f (map param_of params.now) d k) at.new (λ v. at_sep x os f (map param_of params.now ++ param_by d k v.items ∷ [])) result }
+    ensures moves { (x : List ℕ) (os : List Signature) (f : List ℕ) (d : Dir) (k : ParamKind)
+        → Moves (signs tokens.now) at.old (at_param x os f (map param_of params.now) d k) at.new
+        (λ v. at_sep x os f (map param_of params.now ++ param_by d k v.items ∷ [])) result }
     ensures within { OnOk result ((at.old < length tokens.now) × (at.new ≡ at.old + 1)) }
 {
     let word = match word_at(tokens, *at) {
@@ -280,7 +177,9 @@ fn read_param(
     at: &mut usize,
     params: &[Parameter],
 ) -> Result<Parameter, Stop>
-    ensures moves { (x : List ℕ) (os : List Signature) (f : List ℕ) → Moves (signs tokens.now) at.old (at_dir x os f (map param_of params.now)) at.new (λ p. at_sep x os f (map param_of params.now ++ param_of p ∷ [])) result }
+    ensures moves { (x : List ℕ) (os : List Signature) (f : List ℕ)
+        → Moves (signs tokens.now) at.old (at_dir x os f (map param_of params.now)) at.new
+        (λ p. at_sep x os f (map param_of params.now ++ param_of p ∷ [])) result }
     ensures few { OnOk result (length params.now < 16) }
     ensures within { OnOk result ((at.old < at.new) × (at.new ≤ length tokens.now)) }
 {
@@ -300,7 +199,9 @@ fn read_param(
 
 /// Whether another parameter follows, or else the list is ended.
 fn pass_more(tokens: &[Token], at: &mut usize) -> Result<bool, Stop>
-    ensures moves { (x : List ℕ) (os : List Signature) (f : List ℕ) (ps : List Param) → Moves (signs tokens.now) at.old (at_sep x os f ps) at.new (λ more. if more then at_dir x os f ps else at_semi x os f ps) result }
+    ensures moves { (x : List ℕ) (os : List Signature) (f : List ℕ) (ps : List Param)
+        → Moves (signs tokens.now) at.old (at_sep x os f ps) at.new (λ more. if more
+        then at_dir x os f ps else at_semi x os f ps) result }
     ensures within { OnOk result ((at.old < length tokens.now) × (at.new ≡ at.old + 1)) }
 {
     match pass_symbol(tokens, at, Symbol::Comma) {
@@ -319,7 +220,10 @@ fn add_param(
     at: &mut usize,
     params: &mut Vec<Parameter>,
 ) -> Result<bool, Stop>
-    ensures moves { (x : List ℕ) (os : List Signature) (f : List ℕ) → Moves (signs tokens.now) at.old (at_dir x os f (map param_of params.old.items)) at.new (λ more. if more then at_dir x os f (map param_of params.new.items) else at_semi x os f (map param_of params.new.items)) result }
+    ensures moves { (x : List ℕ) (os : List Signature) (f : List ℕ)
+        → Moves (signs tokens.now) at.old (at_dir x os f (map param_of params.old.items)) at.new
+        (λ more. if more then at_dir x os f (map param_of params.new.items)
+        else at_semi x os f (map param_of params.new.items)) result }
     ensures within { OnOk result ((at.old < at.new) × (at.new ≤ length tokens.now)) }
     ensures size { OnOk result ((1 ≤ length params.new.items) × (length params.new.items ≤ 16)) }
 {
@@ -336,7 +240,9 @@ fn add_param(
 
 fn read_params(alloc: Global, tokens: &[Token], at: &mut usize) -> Result<Vec<Parameter>, Stop>
     requires { at.old ≤ length tokens.now }
-    ensures moves { (x : List ℕ) (os : List Signature) (f : List ℕ) → Moves (signs tokens.now) at.old (at_dir x os f []) at.new (λ v. at_semi x os f (map param_of v.items)) result }
+    ensures moves { (x : List ℕ) (os : List Signature) (f : List ℕ)
+        → Moves (signs tokens.now) at.old (at_dir x os f []) at.new
+        (λ v. at_semi x os f (map param_of v.items)) result }
     ensures within { OnOk result ((at.old < at.new) × (at.new ≤ length tokens.now)) }
     ensures size { IfOk result (λ v. (1 ≤ length v.items) × (length v.items ≤ 16)) }
 {
@@ -373,7 +279,8 @@ fn pass_op_name(
     at: &mut usize,
     ops: &[Operation],
 ) -> Result<Vec<u8>, Stop>
-    ensures moves { (x : List ℕ) → Moves (signs tokens.now) at.old (at_name x (map op_of ops.now)) at.new (λ v. at_paren x (map op_of ops.now) v.items) result }
+    ensures moves { (x : List ℕ) → Moves (signs tokens.now) at.old (at_name x (map op_of ops.now))
+        at.new (λ v. at_paren x (map op_of ops.now) v.items) result }
     ensures within { OnOk result ((at.old < length tokens.now) × (at.new ≡ at.old + 1)) }
     ensures few { OnOk result (length ops.now < 64) }
 {
@@ -399,7 +306,8 @@ fn read_op(
     at: &mut usize,
     ops: &[Operation],
 ) -> Result<Operation, Stop>
-    ensures moves { (x : List ℕ) → Moves (signs tokens.now) at.old (at_name x (map op_of ops.now)) at.new (λ o. at_ops x (map op_of ops.now ++ op_of o ∷ [])) result }
+    ensures moves { (x : List ℕ) → Moves (signs tokens.now) at.old (at_name x (map op_of ops.now))
+        at.new (λ o. at_ops x (map op_of ops.now ++ op_of o ∷ [])) result }
     ensures within { OnOk result ((at.old < at.new) × (at.new ≤ length tokens.now)) }
     ensures few { OnOk result (length ops.now < 64) }
     ensures size { IfOk result (λ o. IsOpSized (op_of o)) }
@@ -421,9 +329,12 @@ fn read_op(
     Ok(Operation { name, params })
 }
 
-/// Whether another operation follows, or else the interface is closed, which it can't be without an operation.
+/// Whether another operation follows, or else the interface is closed, which it can't be without an
+/// operation.
 fn pass_void(tokens: &[Token], at: &mut usize, is_first: bool) -> Result<bool, Stop>
-    ensures moves { (x : List ℕ) (os : List Signature) → IsTrue is_first ↔ (os ≡ []) → Moves (signs tokens.now) at.old (at_ops x os) at.new (λ more. if more then at_name x os else closed x os) result }
+    ensures moves { (x : List ℕ) (os : List Signature) → IsTrue is_first ↔ (os ≡ [])
+        → Moves (signs tokens.now) at.old (at_ops x os) at.new (λ more. if more then at_name x os
+        else closed x os) result }
     ensures within { OnOk result ((at.old < length tokens.now) × (at.new ≡ at.old + 1)) }
     ensures some { result ≡ Ok false → IsFalse is_first }
 {
@@ -451,7 +362,10 @@ fn add_op(
     ops: &mut Vec<Operation>,
 ) -> Result<bool, Stop>
     requires { IsOpsSized (map op_of ops.old.items) }
-    ensures moves { (x : List ℕ) → Moves (signs tokens.now) at.old (at_ops x (map op_of ops.old.items)) at.new (λ more. if more then at_ops x (map op_of ops.new.items) else closed x (map op_of ops.new.items)) result }
+    ensures moves { (x : List ℕ)
+        → Moves (signs tokens.now) at.old (at_ops x (map op_of ops.old.items)) at.new
+        (λ more. if more then at_ops x (map op_of ops.new.items)
+        else closed x (map op_of ops.new.items)) result }
     ensures within { OnOk result ((at.old < at.new) × (at.new ≤ length tokens.now)) }
     ensures size { OnOk result (IsOpsSized (map op_of ops.new.items)) }
     ensures some { result ≡ Ok false → 1 ≤ length ops.new.items }
@@ -472,7 +386,8 @@ fn add_op(
 
 fn read_ops(alloc: Global, tokens: &[Token], at: &mut usize) -> Result<Vec<Operation>, Stop>
     requires { at.old ≤ length tokens.now }
-    ensures moves { (x : List ℕ) → Moves (signs tokens.now) at.old (at_ops x []) at.new (λ v. closed x (map op_of v.items)) result }
+    ensures moves { (x : List ℕ) → Moves (signs tokens.now) at.old (at_ops x []) at.new
+        (λ v. closed x (map op_of v.items)) result }
     ensures size { IfOk result (λ v. (1 ≤ length v.items) × IsOpsSized (map op_of v.items)) }
 {
     let mut ops = Vec::new(alloc);
@@ -497,7 +412,9 @@ fn pass_last(tokens: &[Token], at: usize) -> Result<(), Stop>
 
 /// The end, behind a semicolon or not.
 fn pass_end(tokens: &[Token], at: &mut usize) -> Result<(), Stop>
-    ensures { (x : List ℕ) (os : List Signature) → Ends (signs tokens.now) at.old (closed x os) at.new (record { name = x; ops = os }) result }
+    ensures { (x : List ℕ) (os : List Signature)
+        → Ends (signs tokens.now) at.old (closed x os) at.new (record { name = x; ops = os })
+        result }
 {
     match pass_symbol(tokens, at, Symbol::Semicolon) {
         Ok(()) => pass_last(tokens, *at),
@@ -523,8 +440,8 @@ fn read_interface(alloc: Global, tokens: &[Token], at: &mut usize) -> Result<Idl
     }
 }
 
-/// Why a text is no interface: what is wrong, and the line where it goes wrong, from 1; 0 for a text that is
-/// too long. Or want of memory.
+/// Why a text is no interface: what is wrong, and the line where it goes wrong, from 1; 0 for a
+/// text that is too long. Or want of memory.
 #[derive(Clone, Copy, Debug, PartialEq, Eq)]
 pub enum IdlErr {
     At { line: u32, kind: IdlKind },

@@ -207,7 +207,8 @@ fn close_at(bytes: &[u8]) -> Option<(usize, u32)>
     None
 }
 
-/// A piece of a text: a blank or comment with what follows it, a token with what follows it, or the last token.
+/// A piece of a text: a blank or comment with what follows it, a token with what follows it, or the
+/// last token.
 #[derive(Clone, Copy)]
 enum Piece<'a> {
     Passed { line: u32, rest: &'a [u8] },
@@ -302,7 +303,8 @@ fn first_piece<'a>(line: u32, bytes: &'a [u8]) -> Piece<'a>
     }
 }
 
-/// The tokens of a text of at most 65,536 bytes. The last is the end, or the first that is no word or symbol.
+/// The tokens of a text of at most 65,536 bytes. The last is the end, or the first that is no word
+/// or symbol.
 pub(crate) fn tokens<'a>(alloc: Global, bytes: &'a [u8]) -> Result<Vec<Token<'a>>, NoMemory>
     requires { length bytes.now ≤ 65536 }
     ensures { IfOk result (λ tokens. Reads 1 bytes.now (map mark_of tokens.items)) }

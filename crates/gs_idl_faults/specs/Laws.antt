@@ -6,4 +6,5 @@ use Rattle.gs_idl.specs.declared.token.IdlKind.{IdlKind}
 -- a text's fault has one line and one kind
 abbrev pub OneFault : Type 0
 OneFault =
-    (text : List ℕ) (line other : ℕ) (kind others : IdlKind) → IsFault text line kind → IsFault text other others → (line ≡ other) × (kind ≡ others)
+    (text : List ℕ) (line other : ℕ) (kind others : IdlKind) → IsFault text line kind
+        → IsFault text other others → (line ≡ other) × (kind ≡ others)

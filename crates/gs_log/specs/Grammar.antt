@@ -2,8 +2,8 @@
 --
 --     log = closed | 01 len payload log
 --
--- `closed` is one byte other than 1, followed by any bytes. `len` is four bytes, the lowest first, and `payload` has that
--- many bytes, at most 2^25. A log has at most 32,767 records.
+-- `closed` is one byte other than 1, followed by any bytes. `len` is four bytes, the lowest first,
+-- and `payload` has that many bytes, at most 2^25. A log has at most 32,767 records.
 use Rattle.std.specs.Prelude.{◌≡◌, ◌≢◌, ◌⊎◌, ℕ, ◌≤◌, List, [], ◌∷◌, ◌++◌, length, Option, MatchOption}
 use Rattle.gs_log.specs.declared.limits.TheConstants.{MAX_PAYLOAD, MAX_RECORDS}
 use Rattle.std.specs.Int.{w32, to_le_bytes}
@@ -11,7 +11,8 @@ use Rattle.std.specs.Int.{w32, to_le_bytes}
 -- the bytes are spelled by these payloads
 abbrev pub Spells : List (List ℕ) → List ℕ → Type 0
 Spells [] bytes = (gate : ℕ) × (behind : List ℕ) × (gate ≢ 1) × (bytes ≡ gate ∷ behind)
-Spells (payload ∷ payloads) bytes = (log : List ℕ) × (length payload ≤ MAX_PAYLOAD) × (bytes ≡ 1 ∷ (to_le_bytes w32 (length payload) ++ payload ++ log)) × Spells payloads log
+Spells (payload ∷ payloads) bytes = (log : List ℕ) × (length payload ≤ MAX_PAYLOAD)
+    × (bytes ≡ 1 ∷ (to_le_bytes w32 (length payload) ++ payload ++ log)) × Spells payloads log
 
 -- the bytes are a log with this list
 pub record IsLog (list : List (List ℕ)) (bytes : List ℕ) : Type 0 where
@@ -35,9 +36,12 @@ pub record Begins (payload behind : List ℕ) : Type 0 where
   pub follows : 1 ≤ length log
   pub is : behind ≡ to_le_bytes w32 (length payload) ++ payload ++ log
 
--- behind n records there is no log: it is empty, or an open gate, with too many records before it or with no whole record
+-- behind n records there is no log: it is empty, or an open gate, with too many records before it
+-- or with no whole record
 abbrev pub Breaks : ℕ → List ℕ → Type 0
-Breaks n bytes = ((n ≡ 0) × (bytes ≡ [])) ⊎ ((behind : List ℕ) × (bytes ≡ 1 ∷ behind) × ((n ≡ MAX_RECORDS) ⊎ ((payload : List ℕ) → Begins payload behind → ⊥)))
+Breaks n bytes = ((n ≡ 0) × (bytes ≡ []))
+    ⊎ ((behind : List ℕ) × (bytes ≡ 1 ∷ behind)
+    × ((n ≡ MAX_RECORDS) ⊎ ((payload : List ℕ) → Begins payload behind → ⊥)))
 
 -- the bytes are no log, and the gate of the first record that doesn't fit is at this place
 pub record BreaksAt (bytes : List ℕ) (at : ℕ) : Type 0 where

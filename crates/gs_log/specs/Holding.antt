@@ -13,8 +13,10 @@ pub record Holds (list : List (List ℕ)) (folder : Folder) : Type 0 where
 
 -- the list as it was, or with the payload, and then all other files are as they read
 abbrev pub IsBeforeOrAfter : List (List ℕ) → List ℕ → Folder → Folder → Type 0
-IsBeforeOrAfter list payload as_read image = Holds list image ⊎ (Holds (list ++ payload ∷ []) image × KeepsOthers (log_name ∷ []) as_read image)
+IsBeforeOrAfter list payload as_read image = Holds list image
+    ⊎ (Holds (list ++ payload ∷ []) image × KeepsOthers (log_name ∷ []) as_read image)
 
 -- no mark, or an empty list, and then all other files are as they read
 abbrev pub IsNoneOrEmpty : Folder → Folder → Type 0
-IsNoneOrEmpty as_read image = (image mark_name ≡ None) ⊎ (Holds [] image × KeepsOthers (log_name ∷ mark_name ∷ []) as_read image)
+IsNoneOrEmpty as_read image = (image mark_name ≡ None)
+    ⊎ (Holds [] image × KeepsOthers (log_name ∷ mark_name ∷ []) as_read image)

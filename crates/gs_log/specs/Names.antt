@@ -1,4 +1,5 @@
--- The files of the log. What they are called doesn't unfold: these facts are what other crates need of it.
+-- The files of the log. What they are called doesn't unfold: these facts are what other crates need
+-- of it.
 use Rattle.std.specs.Prelude.{◌≢◌, ℕ, zero, suc, List, [], ◌∷◌, refl}
 use Rattle.std.proofs.Common.{arith}
 use Rattle.gs_disk.specs.Name.{NamedTo, IsDiskName, IsStore}

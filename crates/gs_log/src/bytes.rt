@@ -10,7 +10,8 @@ use std::alloc::{AllocError, Global};
 /// What stands behind the gate of a record: its length, its payload and the next gate, closed.
 pub fn closed_record(alloc: Global, payload: &[u8]) -> Result<Vec<u8>, AllocError>
     requires { length payload.now ≤ MAX_PAYLOAD }
-    ensures { IfOk result (λ made. made.items ≡ (to_le_bytes w32 (length payload.now) ++ payload.now) ++ 0 ∷ []) }
+    ensures { IfOk result (λ made. made.items
+        ≡ (to_le_bytes w32 (length payload.now) ++ payload.now) ++ 0 ∷ []) }
 {
     let mut closed = Vec::with_capacity(alloc, payload.len() + 5)?;
     closed.extend_from_slice(&(payload.len() as u32).to_le_bytes())?;
@@ -19,9 +20,11 @@ pub fn closed_record(alloc: Global, payload: &[u8]) -> Result<Vec<u8>, AllocErro
     Ok(closed)
 }
 
-/// The payload of the record that begins behind a gate; `None` where none is whole, or no byte follows it.
+/// The payload of the record that begins behind a gate; `None` where none is whole, or no byte
+/// follows it.
 pub fn first_payload(behind: &[u8]) -> Option<&[u8]>
-    ensures { MatchOption result ((payload : List ℕ) → Begins payload behind.now → ⊥) (λ payload. Begins payload.now behind.now) }
+    ensures { MatchOption result ((payload : List ℕ) → Begins payload behind.now
+        → ⊥) (λ payload. Begins payload.now behind.now) }
 {
     if behind.len() < 4 {
         return None;

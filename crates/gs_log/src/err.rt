@@ -13,8 +13,8 @@ pub enum LogErr {
     /// There is no mark, and so no log.
     #[error("no log")]
     NoMark,
-    /// The bytes are no log. `at` is the place of the gate of the first record that doesn't fit, and 0 for
-    /// an absent or an empty file.
+    /// The bytes are no log. `at` is the place of the gate of the first record that doesn't fit,
+    /// and 0 for an absent or an empty file.
     #[error("bad log at {at}")]
     BadLog { at: u64 },
     /// The disk failed.

@@ -1,5 +1,5 @@
-//! A log of payloads on a disk. A record is written behind a closed gate, synced, and opened by a write of
-//! its own, so that after a crash at any moment it is wholly there or wholly absent.
+//! A log of payloads on a disk. A record is written behind a closed gate, synced, and opened by a
+//! write of its own, so that after a crash at any moment it is wholly there or wholly absent.
 #![tactic(auto)]
 
 mod bytes;

@@ -21,8 +21,8 @@ use gs_disk::{Disk, Whole, read_whole};
 use std::alloc::Global;
 use std::marker::Model;
 
-/// A log as it stands on a disk, with its payloads in memory. After a call has answered an error it isn't
-/// used again, but loaded anew.
+/// A log as it stands on a disk, with its payloads in memory. After a call has answered an error it
+/// isn't used again, but loaded anew.
 #[derive(Drop)]
 pub struct Log {
     pub(crate) alloc: Global,
@@ -46,16 +46,21 @@ impl Model for Log {
 }
 
 impl Log {
-    /// Makes an empty log on a disk that has none: `.gs.log` with one closed gate, and then its mark `.gs.on`.
-    /// A crash leaves no mark or the empty list. It answers only `DiskFault` and `NoMemory`.
+    /// Makes an empty log on a disk that has none: `.gs.log` with one closed gate, and then its
+    /// mark `.gs.on`. A crash leaves no mark or the empty list. It answers only `DiskFault` and
+    /// `NoMemory`.
     pub fn create<D: Disk>(alloc: Global, disk: &mut D) -> Result<Log, LogErr>
         requires unmarked { D.tells → EachNow (λ image. image mark_name ≡ None) (D.state disk.old) }
         ensures empty { IfOk result (λ log. log ≡ []) }
-        ensures any_moment { D.tells → Always (IsNoneOrEmpty (D.state disk.old).folder) (D.state disk.old) (D.state disk.new) }
-        ensures images { D.tells → Passes (KeepsOthers (log_name ∷ mark_name ∷ [])) (D.state disk.old) (D.state disk.new) }
-        ensures only { D.tells → OnOk result (LeavesOnly (D.state disk.new).folder (D.state disk.new)) }
+        ensures any_moment { D.tells → Always (IsNoneOrEmpty (D.state disk.old).folder)
+            (D.state disk.old) (D.state disk.new) }
+        ensures images { D.tells → Passes (KeepsOthers (log_name ∷ mark_name ∷ []))
+            (D.state disk.old) (D.state disk.new) }
+        ensures only { D.tells → OnOk result
+            (LeavesOnly (D.state disk.new).folder (D.state disk.new)) }
         ensures held { D.tells → OnOk result (Holds [] (D.state disk.new).folder) }
-        ensures others { D.tells → KeepsOthers (log_name ∷ mark_name ∷ []) (D.state disk.old).folder (D.state disk.new).folder }
+        ensures others { D.tells → KeepsOthers (log_name ∷ mark_name ∷ []) (D.state disk.old).folder
+            (D.state disk.new).folder }
         ensures cause { HasCause (D.state disk.old) (D.state disk.new) result }
         ensures refused { IfErr result IsOutside }
     {
@@ -68,16 +73,19 @@ impl Log {
         })
     }
 
-    /// Reads the log of a disk. It begins with a sync, and changes nothing. `NoMark` comes exactly where
-    /// there is no mark, and `BadLog` exactly where the file is no log, with the place of the gate of the
-    /// first record that doesn't fit.
+    /// Reads the log of a disk. It begins with a sync, and changes nothing. `NoMark` comes exactly
+    /// where there is no mark, and `BadLog` exactly where the file is no log, with the place of the
+    /// gate of the first record that doesn't fit.
     pub fn load<D: Disk>(alloc: Global, disk: &mut D) -> Result<Log, LogErr>
         ensures list { D.tells → IfOk result (λ log. Holds log (D.state disk.new).folder) }
         ensures refused { D.tells → IfErr result (λ e. Refuses (D.state disk.new).folder e) }
         ensures same { D.tells → (D.state disk.new).folder ≡ (D.state disk.old).folder }
         ensures images { D.tells → Passes Same (D.state disk.old) (D.state disk.new) }
-        ensures only { D.tells → OnOk result (LeavesOnly (D.state disk.new).folder (D.state disk.new)) }
-        ensures only_refused { D.tells → IfErr result (λ e. IsOutside e ⊎ LeavesOnly (D.state disk.new).folder (D.state disk.new)) }
+        ensures only { D.tells → OnOk result
+            (LeavesOnly (D.state disk.new).folder (D.state disk.new)) }
+        ensures only_refused { D.tells
+            → IfErr result (λ e. IsOutside e
+            ⊎ LeavesOnly (D.state disk.new).folder (D.state disk.new)) }
         ensures cause { HasCause (D.state disk.old) (D.state disk.new) result }
     {
         disk.sync()?;
@@ -94,21 +102,27 @@ impl Log {
         Ok(log)
     }
 
-    /// Adds a payload of at most `MAX_PAYLOAD` bytes to a log of fewer than `MAX_RECORDS` records. It writes
-    /// the length, the payload and a closed gate behind the closed gate, syncs, opens that gate and syncs. A
-    /// crash leaves the list as it was, or with the payload; once this has answered `Ok`, with the payload. It
-    /// answers only `DiskFault` and `NoMemory`.
+    /// Adds a payload of at most `MAX_PAYLOAD` bytes to a log of fewer than `MAX_RECORDS` records.
+    /// It writes the length, the payload and a closed gate behind the closed gate, syncs, opens
+    /// that gate and syncs. A crash leaves the list as it was, or with the payload; once this has
+    /// answered `Ok`, with the payload. It answers only `DiskFault` and `NoMemory`.
     pub fn append<D: Disk>(&mut self, disk: &mut D, payload: &[u8]) -> Result<(), LogErr>
         requires small { length payload.now ≤ MAX_PAYLOAD }
         requires room { length self.old < MAX_RECORDS }
         requires stands { D.tells → EachNow (Holds self.old) (D.state disk.old) }
         ensures list { OnOk result (self.new ≡ self.old ++ payload.now ∷ []) }
         ensures same { OnErr result (self.new ≡ self.old) }
-        ensures any_moment { D.tells → Always (IsBeforeOrAfter self.old payload.now (D.state disk.old).folder) (D.state disk.old) (D.state disk.new) }
-        ensures images { D.tells → Passes (KeepsOthers (log_name ∷ [])) (D.state disk.old) (D.state disk.new) }
-        ensures only { D.tells → OnOk result (LeavesOnly (D.state disk.new).folder (D.state disk.new)) }
-        ensures held { D.tells → OnOk result (Holds (self.old ++ payload.now ∷ []) (D.state disk.new).folder) }
-        ensures others { D.tells → KeepsOthers (log_name ∷ []) (D.state disk.old).folder (D.state disk.new).folder }
+        ensures any_moment { D.tells
+            → Always (IsBeforeOrAfter self.old payload.now (D.state disk.old).folder)
+            (D.state disk.old) (D.state disk.new) }
+        ensures images { D.tells → Passes (KeepsOthers (log_name ∷ [])) (D.state disk.old)
+            (D.state disk.new) }
+        ensures only { D.tells → OnOk result
+            (LeavesOnly (D.state disk.new).folder (D.state disk.new)) }
+        ensures held { D.tells → OnOk result
+            (Holds (self.old ++ payload.now ∷ []) (D.state disk.new).folder) }
+        ensures others { D.tells → KeepsOthers (log_name ∷ []) (D.state disk.old).folder
+            (D.state disk.new).folder }
         ensures cause { HasCause (D.state disk.old) (D.state disk.new) result }
         ensures refused { IfErr result IsOutside }
     {
@@ -124,7 +138,8 @@ impl Log {
     fn keep(&mut self, closed: Vec<u8>, payload: &[u8]) -> Result<(), LogErr>
         requires small { length payload.now ≤ MAX_PAYLOAD }
         requires room { length self.old < MAX_RECORDS }
-        requires spelled { closed.items ≡ (to_le_bytes w32 (length payload.now) ++ payload.now) ++ 0 ∷ [] }
+        requires spelled { closed.items ≡ (to_le_bytes w32 (length payload.now) ++ payload.now) ++ 0
+            ∷ [] }
         ensures list { OnOk result (self.new ≡ self.old ++ payload.now ∷ []) }
         ensures same { OnErr result (self.new ≡ self.old) }
         ensures refused { IfErr result (λ e. e ≡ NoMemory) }

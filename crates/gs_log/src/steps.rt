@@ -14,11 +14,14 @@ use gs_disk::{Disk, DiskErr};
 /// Makes the log's file, and then its mark.
 pub fn make_files<D: Disk>(disk: &mut D) -> Result<(), DiskErr>
     requires unmarked { D.tells → EachNow (λ image. image mark_name ≡ None) (D.state disk.old) }
-    ensures any_moment { D.tells → Always (IsNoneOrEmpty (D.state disk.old).folder) (D.state disk.old) (D.state disk.new) }
-    ensures images { D.tells → Passes (KeepsOthers (log_name ∷ mark_name ∷ [])) (D.state disk.old) (D.state disk.new) }
+    ensures any_moment { D.tells → Always (IsNoneOrEmpty (D.state disk.old).folder)
+        (D.state disk.old) (D.state disk.new) }
+    ensures images { D.tells → Passes (KeepsOthers (log_name ∷ mark_name ∷ [])) (D.state disk.old)
+        (D.state disk.new) }
     ensures only { D.tells → OnOk result (LeavesOnly (D.state disk.new).folder (D.state disk.new)) }
     ensures held { D.tells → OnOk result (Holds [] (D.state disk.new).folder) }
-    ensures others { D.tells → KeepsOthers (log_name ∷ mark_name ∷ []) (D.state disk.old).folder (D.state disk.new).folder }
+    ensures others { D.tells → KeepsOthers (log_name ∷ mark_name ∷ []) (D.state disk.old).folder
+        (D.state disk.new).folder }
     ensures cause { HasCause (D.state disk.old) (D.state disk.new) result }
 {
     let log = log_file();
@@ -40,13 +43,19 @@ pub fn add_record<D: Disk>(
 ) -> Result<(), DiskErr>
     requires small { length payload.now ≤ MAX_PAYLOAD }
     requires room { length list.now < MAX_RECORDS }
-    requires spelled { closed.now ≡ (to_le_bytes w32 (length payload.now) ++ payload.now) ++ 0 ∷ [] }
+    requires spelled { closed.now ≡ (to_le_bytes w32 (length payload.now) ++ payload.now) ++ 0
+        ∷ [] }
     requires stands { D.tells → EachNow (Holds list.now) (D.state disk.old) }
-    ensures any_moment { D.tells → Always (IsBeforeOrAfter list.now payload.now (D.state disk.old).folder) (D.state disk.old) (D.state disk.new) }
-    ensures images { D.tells → Passes (KeepsOthers (log_name ∷ [])) (D.state disk.old) (D.state disk.new) }
+    ensures any_moment { D.tells
+        → Always (IsBeforeOrAfter list.now payload.now (D.state disk.old).folder) (D.state disk.old)
+        (D.state disk.new) }
+    ensures images { D.tells → Passes (KeepsOthers (log_name ∷ [])) (D.state disk.old)
+        (D.state disk.new) }
     ensures only { D.tells → OnOk result (LeavesOnly (D.state disk.new).folder (D.state disk.new)) }
-    ensures held { D.tells → OnOk result (Holds (list.now ++ payload.now ∷ []) (D.state disk.new).folder) }
-    ensures others { D.tells → KeepsOthers (log_name ∷ []) (D.state disk.old).folder (D.state disk.new).folder }
+    ensures held { D.tells → OnOk result
+        (Holds (list.now ++ payload.now ∷ []) (D.state disk.new).folder) }
+    ensures others { D.tells → KeepsOthers (log_name ∷ []) (D.state disk.old).folder
+        (D.state disk.new).folder }
     ensures cause { HasCause (D.state disk.old) (D.state disk.new) result }
 {
     let log = log_file();

@@ -6,7 +6,8 @@ use gs_disk::{Disk, DiskErr, Keep, MemDisk};
 use std::alloc::Global;
 use std::test::Fail;
 
-/// Loads the log of a disk, or makes one where there is none: a sync, a length, and five calls more.
+/// Loads the log of a disk, or makes one where there is none: a sync, a length, and five calls
+/// more.
 fn open<D: Disk>(alloc: Global, disk: &mut D) -> Result<Log, LogErr> {
     disk.sync()?;
     match disk.len(&mark_file())? {
@@ -49,8 +50,8 @@ fn count_after_stop(alloc: Global, calls: u8, keep: Keep) -> Result<u32, LogErr>
     Ok(log.count())
 }
 
-/// What is loaded after a making of a log that stopped at a call: the number of records, `None` without a
-/// mark.
+/// What is loaded after a making of a log that stopped at a call: the number of records, `None`
+/// without a mark.
 fn made_after_stop(alloc: Global, calls: u8, keep: Keep) -> Result<Option<u32>, LogErr> {
     let mut disk = MemDisk::new(alloc);
     disk.stop_after(u64::from(calls) + 2);

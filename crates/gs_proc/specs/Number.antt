@@ -23,7 +23,8 @@ abbrev pub signed : Bool → ℕ → ℤ
 signed true n = pos 0 -ℤ pos n
 signed false n = pos 0 +ℤ pos n
 
--- these bytes are a number: `-` or nothing, 1 to 19 digits, one line feed or nothing, within 64 bits
+-- these bytes are a number: `-` or nothing, 1 to 19 digits, one line feed or nothing, within 64
+-- bits
 pub record IsNumber (bytes : List ℕ) (v : ℤ) : Type 0 where
   pub negative : Bool
   pub digits : List ℕ

@@ -49,9 +49,10 @@ abbrev pub IsFinished : Event → Type 0
 IsFinished (Finished n outs) = Unit {0}
 IsFinished (Failed n) = ⊥
 
--- the task that ended last was in flight as its job, and where it finished, its child was asked, and has ended with
--- status 0
-pub record EndedLast {R F D P I O E : Type 0} (old new : ProcLink R F D P I O E) (e : Event) : Type 0 where
+-- the task that ended last was in flight as its job, and where it finished, its child was asked,
+-- and has ended with status 0
+pub record EndedLast {R F D P I O E : Type 0} (old new : ProcLink R F D P I O E) (e : Event) : Type
+    0 where
   pub task : Task (Child P I O E)
   pub last : new.last ≡ Some task
   pub flew : jobs_of old (task_of e) ≡ Some task.call

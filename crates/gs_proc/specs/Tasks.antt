@@ -22,4 +22,5 @@ AreApart (job ∷ jobs) = (job_at jobs job.n ≡ None) × AreApart jobs
 
 -- a child was asked, and has ended with status 0
 abbrev pub EndedWell : {P I O E : Type 0} → Child P I O E → Type 0
-EndedWell child = (status : ExitStatus) × (child_status child ≡ Some status) × (exit_code status ≡ Some (pos 0))
+EndedWell child = (status : ExitStatus) × (child_status child ≡ Some status)
+    × (exit_code status ≡ Some (pos 0))

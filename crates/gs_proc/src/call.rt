@@ -7,8 +7,8 @@ use std::alloc::Global;
 use std::marker::Model;
 use std::snapshot::Snapshot;
 
-/// What a place of a task has: a given value that is a word, a given file, or a file from which a file,
-/// a number or a string is taken.
+/// What a place of a task has: a given value that is a word, a given file, or a file from which a
+/// file, a number or a string is taken.
 #[derive(Clone, Copy, Debug, PartialEq, Eq)]
 pub(crate) enum Place {
     Word,
@@ -35,7 +35,8 @@ impl Model for Call {
 
     ghost view = { λ c. c.job.value };
 
-    ghost invariant = { λ c. (c.n ≡ c.job.value.n) × (c.places.items ≡ map place_of c.job.value.args) };
+    ghost invariant = { λ c. (c.n ≡ c.job.value.n)
+        × (c.places.items ≡ map place_of c.job.value.args) };
 }
 
 fn place_of(arg: &Arg) -> Place

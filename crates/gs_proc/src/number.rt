@@ -74,8 +74,8 @@ fn split_minus(line: &[u8]) -> (bool, &[u8])
     }
 }
 
-/// The number that a task wrote: `-` or nothing, 1 to 19 digits, one line feed or nothing, within 64
-/// bits. Anything else is none.
+/// The number that a task wrote: `-` or nothing, 1 to 19 digits, one line feed or nothing, within
+/// 64 bits. Anything else is none.
 pub(crate) fn number_of(bytes: &[u8]) -> Option<i64>
     ensures { MatchOption result ((v : ℤ) → IsNumber bytes.now v → ⊥) (λ v. IsNumber bytes.now v) }
 {

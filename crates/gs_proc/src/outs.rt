@@ -32,7 +32,8 @@ fn take_file<R: Files>(rt: &R, alloc: Global, path: &str) -> Result<Value, Troub
 
 // The number that a file's bytes are. Anything else is a failure.
 fn number_in(bytes: &[u8]) -> Result<Value, Trouble>
-    ensures { MatchResult result (IsNumberOf bytes.now) (λ e. (e ≡ Trouble.Failed) × ((v : ℤ) → IsNumber bytes.now v → ⊥)) }
+    ensures { MatchResult result (IsNumberOf bytes.now) (λ e. (e ≡ Trouble.Failed)
+        × ((v : ℤ) → IsNumber bytes.now v → ⊥)) }
 {
     match number_of(bytes) {
         Some(v) => Ok(Value::Int { v }),
@@ -40,9 +41,11 @@ fn number_in(bytes: &[u8]) -> Result<Value, Trouble>
     }
 }
 
-// The string that a file's bytes are, without one line feed at their end. Anything else is a failure.
+// The string that a file's bytes are, without one line feed at their end. Anything else is a
+// failure.
 fn text_in(alloc: Global, bytes: &[u8]) -> Result<Value, Trouble>
-    ensures { MatchResult result (IsTextOf (without_end bytes.now)) (λ e. e ≡ Trouble.Failed → IsText (without_end bytes.now) → ⊥) }
+    ensures { MatchResult result (IsTextOf (without_end bytes.now)) (λ e. e ≡ Trouble.Failed
+        → IsText (without_end bytes.now) → ⊥) }
 {
     match Text::read(alloc, without_line_feed(bytes)) {
         Ok(s) => Ok(Value::Str { s }),

@@ -25,16 +25,16 @@ use std::time::Clock;
 
 /// Runs each task as a child program, several at once. It tells no history.
 ///
-/// A child is the worker's program with the operation's name as its first word and then a word for each
-/// place in order: a given number in decimal, a given string itself, and else the name of a file,
-/// `.gs.stage/TASK.PLACE`. At a given file and at one that is taken back that is a copy; at an output no
-/// file stands there. Folder and environment are the master's own. The child reads nothing, and what it
-/// prints is dropped.
+/// A child is the worker's program with the operation's name as its first word and then a word for
+/// each place in order: a given number in decimal, a given string itself, and else the name of a
+/// file, `.gs.stage/TASK.PLACE`. At a given file and at one that is taken back that is a copy; at
+/// an output no file stands there. Folder and environment are the master's own. The child reads
+/// nothing, and what it prints is dropped.
 ///
-/// A task is finished where its child ends with status 0 and each output's file holds what is wanted: a
-/// file up to 16,777,216 bytes; a number of `-` or nothing, 1 to 19 digits and one line feed or nothing,
-/// within 64 bits; a string without one line feed at its end. Everything else is a failure, and raises
-/// the count.
+/// A task is finished where its child ends with status 0 and each output's file holds what is
+/// wanted: a file up to 16,777,216 bytes; a number of `-` or nothing, 1 to 19 digits and one line
+/// feed or nothing, within 64 bits; a string without one line feed at its end. Everything else is a
+/// failure, and raises the count.
 #[derive(Drop)]
 pub struct ProcLink<R: Files + Processes + Clock + Drop> {
     rt: R,
@@ -132,8 +132,10 @@ impl<R: Files + Processes + Clock + Drop> ProcLink<R> {
     // Ends a task whose child has ended. After want of memory nothing has changed.
     fn finish(&mut self, alloc: Global, end: End) -> Result<Event, NoMemory>
         requires { IsEnd self.old.tasks.list end }
-        ensures ended { IfOk result (λ e. (job : Job) × (jobs_of self.old (task_of e) ≡ Some job) × FitsJob job e) }
-        ensures jobs { IfOk result (λ e. started_jobs self.new ≡ without (task_of e) (started_jobs self.old)) }
+        ensures ended { IfOk result (λ e. (job : Job) × (jobs_of self.old (task_of e) ≡ Some job)
+            × FitsJob job e) }
+        ensures jobs { IfOk result (λ e. started_jobs self.new
+            ≡ without (task_of e) (started_jobs self.old)) }
         ensures order { OnErr result (started_jobs self.new ≡ started_jobs self.old) }
         ensures count { faults_of self.new ≡ waited_count (faults_of self.old) result }
         ensures rise { faults_of self.old ≤ faults_of self.new }
@@ -190,7 +192,8 @@ impl<R: Files + Processes + Clock + Drop> Link for ProcLink<R> {
         ensures ended { HasEnded jobs_of faults_of self.old self.new result }
         ensures told { TellsEnd tells_of self.old self.new result }
         ensures by_law { EndsByLaw tells_of jobs_of (λ law op ins. None) law_of self.old result }
-        ensures jobs { IfOk result (λ e. started_jobs self.new ≡ without (task_of e) (started_jobs self.old)) }
+        ensures jobs { IfOk result (λ e. started_jobs self.new
+            ≡ without (task_of e) (started_jobs self.old)) }
         ensures order { OnErr result (started_jobs self.new ≡ started_jobs self.old) }
         ensures count { faults_of self.new ≡ waited_count (faults_of self.old) result }
         ensures last { IfOk result (EndedLast self.old self.new) }

@@ -30,7 +30,8 @@ pub(crate) struct End {
     pub(crate) ending: Ending,
 }
 
-// What a failed question tells: want of memory, or else a child that can't be asked, which ended badly.
+// What a failed question tells: want of memory, or else a child that can't be asked, which ended
+// badly.
 fn unasked(error: &io::Error) -> Result<Ending, NoMemory>
     ensures { IfOk result (λ ending. ending ≡ Ending.Badly) }
 {

@@ -24,7 +24,11 @@ impl<C> Model for Tasks<C> {
 
     ghost Value = { Crew C };
 
-    ghost view = { λ t. record { list = t.items.items; room = vec_capacity t.items - vec_len t.items } };
+    ghost view = { λ t. record {
+      list = t.items.items;
+      room = vec_capacity t.items - vec_len
+          t.items;
+    } };
 
     ghost invariant = { λ t. AreApart (calls t.items.items) };
 }

@@ -9,8 +9,8 @@ use std::process::{Child, OpenProcess};
 use std::thread;
 use std::time::{Clock, Duration};
 
-// An eighth of the time waited so far, but at least 20 and at most 2,000, once for each eight tasks in
-// flight: so many questions a second, however many tasks. Times are in microseconds.
+// An eighth of the time waited so far, but at least 20 and at most 2,000, once for each eight tasks
+// in flight: so many questions a second, however many tasks. Times are in microseconds.
 fn pause_after(waited: u64, in_flight: usize) -> u64
     ensures { result ≡ min (max 20 (min 2000 (waited / 8)) * (in_flight / 8 + 1)) (2 ^ 64 - 1) }
 {
@@ -51,8 +51,8 @@ fn poll<C: Clock, P: OpenProcess>(
     Ok(None)
 }
 
-/// Sleeps until a child has ended: of one task without a poll, of several round after round. None has
-/// where it asked 2^64 rounds in vain.
+/// Sleeps until a child has ended: of one task without a poll, of several round after round. None
+/// has where it asked 2^64 rounds in vain.
 pub(crate) fn wait<C: Clock, P: OpenProcess>(
     clock: &C,
     tasks: &mut Vec<Task<Child<P>>>,

@@ -71,7 +71,8 @@ fn word_of<R: Files>(
 }
 
 fn add_word(command: &mut Command, word: &str) -> Result<(), AllocError>
-    ensures args { OnOk result (command_args command.new ≡ command_args command.old ++ word.now ∷ []) }
+    ensures args { OnOk result (command_args command.new ≡ command_args command.old ++ word.now
+        ∷ []) }
     ensures program { OnOk result (command_program command.new ≡ command_program command.old) }
     ensures place { IsPlain command.old → OnOk result (IsPlain command.new) }
 {
@@ -80,11 +81,12 @@ fn add_word(command: &mut Command, word: &str) -> Result<(), AllocError>
 }
 
 /// The command of a job: its program with the operation's name and a word for each place. The files
-/// that the words name are staged. Folder and environment are the master's own. What the child reads is
-/// empty, and what it prints is dropped.
+/// that the words name are staged. Folder and environment are the master's own. What the child
+/// reads is empty, and what it prints is dropped.
 pub(crate) fn command_of<R: Files>(rt: &R, alloc: Global, job: &Job) -> Result<Command, Trouble>
     ensures program { IfOk result (λ command. command_program command ≡ job.now.program) }
-    ensures args { IfOk result (λ command. command_args command ≡ job.now.op ∷ words_from job.now.n 1 job.now.args) }
+    ensures args { IfOk result (λ command. command_args command ≡ job.now.op
+        ∷ words_from job.now.n 1 job.now.args) }
     ensures plain { IfOk result IsPlain }
 {
     let mut command = Command::new(alloc, text_of(job.program.bytes())?)?;

@@ -61,21 +61,25 @@ abbrev pub IsByLaw : Meaning → Job → Event → Type 0
 IsByLaw law job (Finished n outs) = Gives law job.op job.args outs
 IsByLaw law job (Failed n) = ⊤
 
--- what a start did, by its answer: the job is in flight; or it was refused, for which the count rose; or memory was
--- wanting, and nothing changed
-pub record HasStarted {K : Type 0} (jobs : K → Flying) (faults : K → ℕ) (old new : K) (job : Job) (result : Result Unit StartErr) : Type 0 where
+-- what a start did, by its answer: the job is in flight; or it was refused, for which the count
+-- rose; or memory was wanting, and nothing changed
+pub record HasStarted {K : Type 0} (jobs : K → Flying) (faults : K → ℕ) (old new : K) (job : Job)
+    (result : Result Unit StartErr) : Type 0 where
   pub flies : OnOk result (SetsJob job.n (Some job) (jobs old) (jobs new))
   pub stays : OnErr result (SameJobs (jobs old) (jobs new))
   pub count : Caused (IsErrOf result start_err.Failed) (faults old) (faults new)
   pub calm : IsErrOf result start_err.NoMemory → faults new ≡ faults old
 
 -- the history grew by a start
-abbrev pub TellsStart : {K : Type 0} → (K → History → Type 0) → K → K → Job → Result Unit StartErr → Type 0
-TellsStart tells old new job result = (past : History) → tells old past → tells new (after_start job result past)
+abbrev pub TellsStart : {K : Type 0} → (K → History → Type 0) → K → K → Job → Result Unit StartErr
+    → Type 0
+TellsStart tells old new job result = (past : History) → tells old past
+    → tells new (after_start job result past)
 
--- what a wait did, by its answer: a job that was in flight is so no more, and its outputs fit, or it failed, for which
--- the count rose; or memory was wanting, and nothing changed
-pub record HasEnded {K : Type 0} (jobs : K → Flying) (faults : K → ℕ) (old new : K) (result : Result Event NoMemory) : Type 0 where
+-- what a wait did, by its answer: a job that was in flight is so no more, and its outputs fit, or
+-- it failed, for which the count rose; or memory was wanting, and nothing changed
+pub record HasEnded {K : Type 0} (jobs : K → Flying) (faults : K → ℕ) (old new : K)
+    (result : Result Event NoMemory) : Type 0 where
   pub ended : IfOk result (λ e. (job : Job) × (jobs old (task_of e) ≡ Some job) × FitsJob job e)
   pub flies : IfOk result (λ e. SetsJob (task_of e) None (jobs old) (jobs new))
   pub stays : OnErr result (SameJobs (jobs old) (jobs new))
@@ -84,15 +88,21 @@ pub record HasEnded {K : Type 0} (jobs : K → Flying) (faults : K → ℕ) (old
 
 -- the history grew by the end of a task
 abbrev pub TellsEnd : {K : Type 0} → (K → History → Type 0) → K → K → Result Event NoMemory → Type 0
-TellsEnd tells old new result = (past : History) → tells old past → tells new (after_wait result past)
+TellsEnd tells old new result = (past : History) → tells old past
+    → tells new (after_wait result past)
 
 -- where the history is told, a task gave what the law says of its job
-abbrev pub EndsByLaw : {K L : Type 0} → (K → History → Type 0) → (K → Flying) → (L → Meaning) → (K → L) → K → Result Event NoMemory → Type 0
+abbrev pub EndsByLaw : {K L : Type 0} → (K → History → Type 0) → (K → Flying) → (L → Meaning)
+    → (K → L) → K → Result Event NoMemory → Type 0
 EndsByLaw tells jobs meaning law old result =
-    (past : History) → tells old past → IfOk result (λ e. (job : Job) → jobs old (task_of e) ≡ Some job → IsByLaw (meaning (law old)) job e)
+    (past : History) → tells old past
+    → IfOk result (λ e. (job : Job) → jobs old (task_of e) ≡ Some job
+    → IsByLaw (meaning (law old)) job e)
 
 -- a job was in flight, and the history got the end of all; or none was, and history and count stay
-abbrev pub Abandons : {K : Type 0} → (K → History → Type 0) → (K → Flying) → (K → ℕ) → K → K → Type 0
+abbrev pub Abandons : {K : Type 0} → (K → History → Type 0) → (K → Flying) → (K → ℕ) → K → K
+    → Type 0
 Abandons tells jobs faults old new =
     (IsBusy (jobs old) × ((past : History) → tells old past → tells new (abandoned ∷ past)))
-    ⊎ (IsIdle (jobs old) × ((past : History) → tells old past → tells new past) × (faults new ≡ faults old))
+    ⊎ (IsIdle (jobs old) × ((past : History) → tells old past → tells new past)
+    × (faults new ≡ faults old))

@@ -42,10 +42,12 @@ told_one h g all a b = a ∙ sym b
 pub told_all : (all : History) → (g : History) × (g ≡ all)
 told_all all = (all, refl)
 
--- how a job ends: with what the law gives for it, where the turn is well and that fits the job's places, and else in a failure
+-- how a job ends: with what the law gives for it, where the turn is well and that fits the job's
+-- places, and else in a failure
 abbrev pub EndsBy : Meaning → Bool → Job → Event → Type 0
 EndsBy law well job (Finished n outs) = (well ≡ true) × Gives law job.op job.args outs
-EndsBy law well job (Failed n) = (outs : List Value) → well ≡ true → Gives law job.op job.args outs → ⊥
+EndsBy law well job (Failed n) = (outs : List Value) → well ≡ true → Gives law job.op job.args outs
+    → ⊥
 
 -- what the law gives for a job, where that fits the job's places, or none
 abbrev pub MayGive : Meaning → Job → Option (List Value) → Type 0
@@ -63,10 +65,12 @@ pub record TakesJob {L : Type 0} (old new : MemLink L) (job : Job) : Type 0 wher
   pub script : script_of new ≡ script_of old
   pub count : faults_of new ≡ faults_of old
 
--- the first turn of the script was taken: the job that it picks ended as it says and as the law says
+-- the first turn of the script was taken: the job that it picks ended as it says and as the law
+-- says
 pub record TakesTurn {L : Type 0} (law : Meaning) (old new : MemLink L) (e : Event) : Type 0 where
   pub picks : task_of e ≡ picked (started_jobs old) (turn_now (script_of old)).pick
-  pub ends : (job : Job) → jobs_of old (task_of e) ≡ Some job → EndsBy law (turn_now (script_of old)).well job e
+  pub ends : (job : Job) → jobs_of old (task_of e) ≡ Some job
+      → EndsBy law (turn_now (script_of old)).well job e
   pub jobs : started_jobs new ≡ without (task_of e) (started_jobs old)
   pub script : script_of new ≡ drop 1 (script_of old)
   pub count : faults_of new ≡ counted (faults_of old) e

@@ -9,7 +9,8 @@ use Rattle.gs_site.specs.declared.past.Told.{Told}
 use Rattle.gs_site.specs.declared.past.Told.TheVariants as t
 use Rattle.gs_site.specs.declared.past.Telling.{Telling, Start, Then'}
 
--- an event without its job or its outputs. A link tells no noted outputs, which would show as a finish
+-- an event without its job or its outputs. A link tells no noted outputs, which would show as a
+-- finish
 abbrev pub past_of : LinkEvent → Past
 past_of (noted n outs) = p.Finished n
 past_of (started n worker job) = p.Started n worker

@@ -14,8 +14,8 @@ use std::alloc::Global;
 use std::marker::Model;
 use std::snapshot::Snapshot;
 
-/// The jobs in flight, in the order of their starts, and what was done, oldest first, with room for one
-/// more event while a job is in flight.
+/// The jobs in flight, in the order of their starts, and what was done, oldest first, with room for
+/// one more event while a job is in flight.
 #[derive(Drop)]
 pub(crate) struct Desk {
     jobs: Vec<Job>,
@@ -32,7 +32,8 @@ impl Model for Desk {
 
     ghost view = { λ d. record { jobs = d.jobs.items; told = history_of d.telling.value } };
 
-    ghost invariant = { λ d. (d.past.items ≡ shown (history_of d.telling.value)) × (0 < length d.jobs.items → vec_len d.past < vec_capacity d.past) };
+    ghost invariant = { λ d. (d.past.items ≡ shown (history_of d.telling.value))
+        × (0 < length d.jobs.items → vec_len d.past < vec_capacity d.past) };
 }
 
 // Notes an event, for which there is room.
@@ -95,7 +96,12 @@ impl Desk {
 
     /// Takes a job, and room for the events that end it. On want of memory nothing changes.
     pub(crate) fn start(&mut self, alloc: Global, job: &Job) -> Result<(), NoMemory>
-        ensures ok { OnOk result (self.new ≡ record { jobs = self.old.jobs ++ job.now ∷ []; told = started job.now.n job.now.worker job.now ∷ self.old.told }) }
+        ensures ok { OnOk result
+            (self.new ≡ record {
+              jobs = self.old.jobs ++ job.now
+                  ∷ [];
+              told = started job.now.n job.now.worker job.now ∷ self.old.told;
+            }) }
         ensures err { OnErr result (self.new ≡ self.old) }
     {
         let copy = copy_job(alloc, job)?;
@@ -110,7 +116,12 @@ impl Desk {
 
     /// Ends a task in flight. On want of memory nothing changes.
     pub(crate) fn end(&mut self, event: &Event) -> Result<(), NoMemory>
-        ensures ok { OnOk result (self.new ≡ record { jobs = without (task_of event.now) self.old.jobs; told = event_told event.now ∷ self.old.told }) }
+        ensures ok { OnOk result
+            (self.new ≡ record {
+              jobs = without (task_of event.now) self.old.jobs;
+              told = event_told
+                  event.now ∷ self.old.told;
+            }) }
         ensures err { OnErr result (self.new ≡ self.old) }
     {
         self.past.reserve(2)?;

@@ -26,8 +26,8 @@ fn suits(arg: &Arg, value: &Value) -> bool
     }
 }
 
-/// Whether there is one output for each place that gives one, in order, each of the place's kind and
-/// within its limit.
+/// Whether there is one output for each place that gives one, in order, each of the place's kind
+/// and within its limit.
 pub(crate) fn fits(args: &[Arg], outs: &[Value]) -> bool
     ensures { IsTrue result ↔ Fit args.now outs.now }
 {

@@ -5,10 +5,10 @@ ghost use Rattle.gs_site.specs.Kit.{file, joined, grown, counted, kit};
 use gs_types::{Blob, FILE_LIMIT, Law, NoMemory, Value};
 use std::alloc::Global;
 
-/// The law of three operations: `join` gives a file followed by another, `grow` a file followed by a
-/// string and a line feed, `count` a file's number of bytes. Any other name, other inputs in number or
-/// kind, and an output that would pass a limit (16,777,216 bytes of a file, 2^63 - 1 of a number) give
-/// none.
+/// The law of three operations: `join` gives a file followed by another, `grow` a file followed by
+/// a string and a line feed, `count` a file's number of bytes. Any other name, other inputs in
+/// number or kind, and an output that would pass a limit (16,777,216 bytes of a file, 2^63 - 1 of a
+/// number) give none.
 #[derive(Clone, Copy, Debug, PartialEq, Eq)]
 pub struct KitLaw;
 

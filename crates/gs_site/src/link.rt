@@ -13,8 +13,8 @@ pub enum Event {
     Failed { n: u32 },
 }
 
-/// Why a task wasn't started: it was refused, which is a failure of the task on this worker, or want of
-/// memory, at which nothing changed.
+/// Why a task wasn't started: it was refused, which is a failure of the task on this worker, or
+/// want of memory, at which nothing changed.
 #[derive(Clone, Copy, Debug, PartialEq, Eq)]
 pub enum StartErr {
     Failed,
@@ -36,16 +36,16 @@ pub trait Link {
 
     ghost faults: { Self → ℕ };
 
-    /// Starts a task that isn't in flight. `Failed` only where the count of faults rose. After `NoMemory`
-    /// nothing has changed.
+    /// Starts a task that isn't in flight. `Failed` only where the count of faults rose. After
+    /// `NoMemory` nothing has changed.
     fn start(&mut self, alloc: Global, job: &Job) -> Result<(), StartErr>
         requires idle { jobs self.old job.now.n ≡ None }
         ensures law { law self.new ≡ law self.old }
         ensures started { HasStarted jobs faults self.old self.new job.now result }
         ensures told { TellsStart tells self.old self.new job.now result };
 
-    /// Waits for the end of a task in flight. `Failed` only where the count of faults rose. After want of
-    /// memory nothing has changed.
+    /// Waits for the end of a task in flight. `Failed` only where the count of faults rose. After
+    /// want of memory nothing has changed.
     fn next(&mut self, alloc: Global) -> Result<Event, NoMemory>
         requires busy { IsBusy (jobs self.old) }
         ensures law { law self.new ≡ law self.old }

@@ -13,8 +13,8 @@ use crate::{Event, Link, Past, StartErr, Turn};
 use gs_types::{Job, Law, NoMemory, Sequence, Value};
 use std::alloc::Global;
 
-/// A link whose jobs give what a law says, and end in the order of a script. It tells its history, which
-/// holds no outputs and no files.
+/// A link whose jobs give what a law says, and end in the order of a script. It tells its history,
+/// which holds no outputs and no files.
 #[derive(Drop)]
 pub struct MemLink<L> {
     law: L,
@@ -60,8 +60,8 @@ fn count(faults: u64, event: &Event) -> u64
 }
 
 impl<L: Law> MemLink<L> {
-    /// A link with no job in flight and no history. `next` takes one turn of the script; a script that
-    /// is used up picks the first job, which ends well.
+    /// A link with no job in flight and no history. `next` takes one turn of the script; a script
+    /// that is used up picks the first job, which ends well.
     pub fn new(alloc: Global, law: L, script: Vec<Turn>) -> MemLink<L>
         ensures law { law_of result ≡ law }
         ensures script { script_of result ≡ script.items }

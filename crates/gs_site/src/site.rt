@@ -13,8 +13,8 @@ use gs_types::{Job, NoMemory};
 use std::alloc::Global;
 use std::snapshot::Snapshot;
 
-/// A disk and a link, which is private to the site, and the place in the link's history at which the run
-/// began.
+/// A disk and a link, which is private to the site, and the place in the link's history at which
+/// the run began.
 #[derive(Drop)]
 pub struct Site<D, K> {
     disk: D,
@@ -65,29 +65,31 @@ impl<D: Disk, K: Link> Site<D, K> {
         requires { IsIdle (K.jobs (link_of self.old)) }
         ensures disk { disk_of self.new ≡ disk_of self.old }
         ensures link { link_of self.new ≡ link_of self.old }
-        ensures mark { (past : History) → K.tells (link_of self.old) past → mark_of self.new ≡ length past }
+        ensures mark { (past : History) → K.tells (link_of self.old) past
+            → mark_of self.new ≡ length past }
         ensures marks { marks_of self.new ≡ mark_of self.new ∷ marks_of self.old }
     {
         self.mark = self.link.events();
         set_mark(&mut self.marks, self.mark);
     }
 
-    /// Starts a task that isn't in flight on the link. `Failed` only where the link's count of faults rose.
-    /// After `NoMemory` nothing has changed.
+    /// Starts a task that isn't in flight on the link. `Failed` only where the link's count of
+    /// faults rose. After `NoMemory` nothing has changed.
     pub fn start(&mut self, alloc: Global, job: &Job) -> Result<(), StartErr>
         requires idle { K.jobs (link_of self.old) job.now.n ≡ None }
         ensures disk { disk_of self.new ≡ disk_of self.old }
         ensures mark { mark_of self.new ≡ mark_of self.old }
         ensures marks { marks_of self.new ≡ marks_of self.old }
         ensures law { K.law (link_of self.new) ≡ K.law (link_of self.old) }
-        ensures started { HasStarted K.jobs K.faults (link_of self.old) (link_of self.new) job.now result }
+        ensures started { HasStarted K.jobs K.faults (link_of self.old) (link_of self.new) job.now
+            result }
         ensures told { TellsStart K.tells (link_of self.old) (link_of self.new) job.now result }
     {
         self.link.start(alloc, job)
     }
 
-    /// Waits for the end of a task in flight. `Failed` only where the link's count of faults rose. After
-    /// want of memory nothing has changed.
+    /// Waits for the end of a task in flight. `Failed` only where the link's count of faults rose.
+    /// After want of memory nothing has changed.
     pub fn next(&mut self, alloc: Global) -> Result<Event, NoMemory>
         requires busy { IsBusy (K.jobs (link_of self.old)) }
         ensures disk { disk_of self.new ≡ disk_of self.old }

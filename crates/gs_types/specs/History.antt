@@ -3,8 +3,9 @@ use Rattle.std.specs.Prelude.{◌≡◌, ℕ, ◌+◌, ◌-◌, ◌==◌, List, 
 use Rattle.gs_types.specs.declared.value.Value.{Value}
 use Rattle.gs_types.specs.declared.job.Job.{Job}
 
--- of task n: its outputs were recorded before the link was made; it was started as this job, or refused on this worker;
--- it finished with these outputs, or failed. And the end of all tasks in flight without an answer. A link tells no `noted`
+-- of task n: its outputs were recorded before the link was made; it was started as this job, or
+-- refused on this worker; it finished with these outputs, or failed. And the end of all tasks in
+-- flight without an answer. A link tells no `noted`
 pub data LinkEvent : Type 0 where
   noted : (n : ℕ) (outs : List Value) → LinkEvent
   started : (n : ℕ) (worker : ℕ) (job : Job) → LinkEvent

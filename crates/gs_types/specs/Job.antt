@@ -29,7 +29,8 @@ abbrev pub IsStr : Value → Type 0
 IsStr (Str s) = IsText s
 IsStr _ = ⊥
 
--- one value for each place that a task gives something at, in order, each of the place's kind and within the limits
+-- one value for each place that a task gives something at, in order, each of the place's kind and
+-- within the limits
 abbrev pub Fit : List Arg → List Value → Type 0
 Fit [] [] = Unit {0}
 Fit [] (v ∷ outs) = ⊥

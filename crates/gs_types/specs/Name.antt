@@ -4,7 +4,8 @@ use Rattle.gs_types.specs.declared.limits.TheConstants.{NAME_LENGTH}
 
 -- a letter, a digit, `.`, `_` or `-`
 abbrev pub is_name_byte : ℕ → Bool
-is_name_byte b = (nat_le 48 b && nat_le b 57) || (nat_le 65 b && nat_le b 90) || (nat_le 97 b && nat_le b 122) || b == 46 || b == 95 || b == 45
+is_name_byte b = (nat_le 48 b && nat_le b 57) || (nat_le 65 b && nat_le b 90)
+    || (nat_le 97 b && nat_le b 122) || b == 46 || b == 95 || b == 45
 
 -- a name may have this byte at this place: a name doesn't begin with `.`
 abbrev pub may_stand : ℕ → ℕ → Bool
@@ -23,4 +24,6 @@ pub record IsName (bytes : List ℕ) : Type 0 where
 -- the first place at which no name goes on
 pub record IsBadAt (bytes : List ℕ) (at : ℕ) : Type 0 where
   pub before : GoesTo bytes at
-  pub here : ((length bytes ≡ 0) × (at ≡ 0)) ⊎ (((at < length bytes) × (at < NAME_LENGTH) × (may_stand at (slice_index bytes at) ≡ false)) ⊎ ((NAME_LENGTH < length bytes) × (at ≡ NAME_LENGTH)))
+  pub here : ((length bytes ≡ 0) × (at ≡ 0))
+      ⊎ (((at < length bytes) × (at < NAME_LENGTH) × (may_stand at (slice_index bytes at) ≡ false))
+      ⊎ ((NAME_LENGTH < length bytes) × (at ≡ NAME_LENGTH)))

@@ -8,7 +8,8 @@ abbrev pub after_write : List ℕ → List ℕ → Result ℕ SinkFailed → Lis
 after_write old piece (Ok n) = old ++ take n piece
 after_write old piece (Err e) = old
 
--- a sink in memory: what was written, the room for it, the calls that are to fail, the calls so far, and its count of faults
+-- a sink in memory: what was written, the room for it, the calls that are to fail, the calls so
+-- far, and its count of faults
 pub record MemSinkState : Type 0 where
   pub bytes : List ℕ
   pub room : ℕ
@@ -18,4 +19,5 @@ pub record MemSinkState : Type 0 where
 
 -- a call fails where its number is listed, or where no room is left for a piece that isn't empty
 abbrev pub is_refused : MemSinkState → List ℕ → Bool
-is_refused s piece = list_any (λ n. n == min (s.calls + 1) (2 ^ 64 - 1)) s.failing || (nat_le s.room (length s.bytes) && nat_lt 0 (length piece))
+is_refused s piece = list_any (λ n. n == min (s.calls + 1) (2 ^ 64 - 1)) s.failing
+    || (nat_le s.room (length s.bytes) && nat_lt 0 (length piece))

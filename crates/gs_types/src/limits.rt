@@ -1,4 +1,5 @@
-// Limits that several crates hold to. Each is the greatest number that is allowed, but for the defaults.
+// Limits that several crates hold to. Each is the greatest number that is allowed, but for the
+// defaults.
 
 /// Bytes of a file that is passed to a task, opened by the main program, or made by either.
 pub const FILE_LIMIT: usize = 16_777_216;

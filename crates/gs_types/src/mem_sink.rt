@@ -19,7 +19,13 @@ impl Model for MemSink {
 
     ghost Value = { MemSinkState };
 
-    ghost view = { λ s. record { bytes = s.bytes.items; room = s.room; failing = s.failing.items; calls = s.calls; faults = s.faults } };
+    ghost view = { λ s. record {
+      bytes = s.bytes.items;
+      room = s.room;
+      failing = s.failing.items;
+      calls = s.calls;
+      faults = s.faults;
+    } };
 
     ghost invariant = { λ s. (s.room ≤ vec_capacity s.bytes) × (vec_len s.bytes ≤ s.room) };
 }
@@ -29,7 +35,8 @@ impl MemSink {
 
     /// An empty sink with room for `room` bytes, which fails at the listed calls, counted from 1.
     pub fn new(alloc: Global, room: usize, failing: Vec<u64>) -> Result<MemSink, NoMemory>
-        ensures { IfOk result (λ s. s ≡ record { bytes = []; room = room; failing = failing.items; calls = 0; faults = 0 }) }
+        ensures { IfOk result (λ s. s
+            ≡ record { bytes = []; room = room; failing = failing.items; calls = 0; faults = 0 }) }
     {
         Ok(MemSink {
             bytes: Vec::with_capacity(alloc, room)?,
@@ -65,8 +72,11 @@ impl Sink for MemSink {
         ensures written { ⊤ → self.new.bytes ≡ after_write self.old.bytes bytes.now result }
         ensures cause { Caused (IsErr result) self.old.faults self.new.faults }
         ensures refused { is_err result ≡ is_refused self.old bytes.now }
-        ensures amount { IfOk result (λ n. (n ≡ min (length bytes.now) (self.old.room - length self.old.bytes)) × (self.new.faults ≡ self.old.faults)) }
-        ensures state { (self.new.room ≡ self.old.room) × (self.new.failing ≡ self.old.failing) × (self.new.calls ≡ min (self.old.calls + 1) (2 ^ 64 - 1)) }
+        ensures amount { IfOk result
+            (λ n. (n ≡ min (length bytes.now) (self.old.room - length self.old.bytes))
+            × (self.new.faults ≡ self.old.faults)) }
+        ensures state { (self.new.room ≡ self.old.room) × (self.new.failing ≡ self.old.failing)
+            × (self.new.calls ≡ min (self.old.calls + 1) (2 ^ 64 - 1)) }
     {
         let number = self.calls.saturating_add(1);
         self.calls = number;

@@ -47,10 +47,11 @@ fn may_stand(at: usize, b: u8) -> bool
 }
 
 impl Name {
-    /// Reads a name. `BadName` exactly where the bytes are none, with the first place that is wrong:
-    /// 0 for no bytes, 200 for more than 200.
+    /// Reads a name. `BadName` exactly where the bytes are none, with the first place that is
+    /// wrong: 0 for no bytes, 200 for more than 200.
     pub fn read(bytes: &[u8]) -> Result<Name, BadName>
-        ensures { MatchResult result (λ n. (n ≡ bytes.now) × IsName n) (λ e. IsBadAt bytes.now e.at) }
+        ensures { MatchResult result (λ n. (n ≡ bytes.now) × IsName n)
+            (λ e. IsBadAt bytes.now e.at) }
     {
         for (at, b) in bytes.iter().enumerate() {
             if at == NAME_LENGTH || !may_stand(at, *b) {

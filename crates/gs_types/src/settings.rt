@@ -24,8 +24,8 @@ pub enum FaultKind {
     StillOpen,
 }
 
-/// Steps of the main program, calls that may be unfinished at once, and failures after which a task is
-/// lost.
+/// Steps of the main program, calls that may be unfinished at once, and failures after which a task
+/// is lost.
 #[derive(Clone, Copy, Debug, PartialEq, Eq)]
 pub struct Settings {
     pub fuel: u64,

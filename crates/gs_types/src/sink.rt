@@ -16,19 +16,23 @@ pub trait Sink {
 
     ghost faults: { Self → ℕ };
 
-    /// Writes a first part of the piece, at least one byte where it has one, and gives the number of
-    /// bytes. `SinkFailed` only where the count of faults rose; then nothing of the piece went out.
+    /// Writes a first part of the piece, at least one byte where it has one, and gives the number
+    /// of bytes. `SinkFailed` only where the count of faults rose; then nothing of the piece went
+    /// out.
     fn write(&mut self, bytes: &[u8]) -> Result<usize, SinkFailed>
         ensures part { IfOk result (λ n. (n ≤ length bytes.now) × (0 < length bytes.now → 0 < n)) }
-        ensures written { tells → written self.new ≡ after_write (written self.old) bytes.now result }
+        ensures written { tells → written self.new ≡ after_write (written self.old) bytes.now
+            result }
         ensures cause { Caused (IsErr result) (faults self.old) (faults self.new) };
 }
 
-/// Writes all bytes, piece by piece. `SinkFailed` only where the count of faults rose; then a first part
-/// was written.
+/// Writes all bytes, piece by piece. `SinkFailed` only where the count of faults rose; then a first
+/// part was written.
 pub fn put_all<S: Sink>(sink: &mut S, bytes: &[u8]) -> Result<(), SinkFailed>
     ensures all { S.tells → OnOk result (S.written sink.new ≡ S.written sink.old ++ bytes.now) }
-    ensures first_part { S.tells → ((k : ℕ) × (k ≤ length bytes.now) × (S.written sink.new ≡ S.written sink.old ++ take k bytes.now)) }
+    ensures first_part { S.tells
+        → ((k : ℕ) × (k ≤ length bytes.now)
+        × (S.written sink.new ≡ S.written sink.old ++ take k bytes.now)) }
     ensures cause { Caused (IsErr result) (S.faults sink.old) (S.faults sink.new) }
 {
     let mut done = 0;

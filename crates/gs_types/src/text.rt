@@ -42,10 +42,11 @@ impl Text {
     ghost use Rattle.gs_types.specs.Bytes.{IsBytes, IsText};
     ghost use Rattle.gs_types.specs.Text.{IsTextErr};
 
-    /// Reads a string. `Long` exactly where there are more than 1,024 bytes; else `BadByte` exactly at
-    /// the first byte that is none of a string; else want of memory.
+    /// Reads a string. `Long` exactly where there are more than 1,024 bytes; else `BadByte` exactly
+    /// at the first byte that is none of a string; else want of memory.
     pub fn read(alloc: Global, bytes: &[u8]) -> Result<Text, TextErr>
-        ensures { MatchResult result (λ t. (t ≡ bytes.now) × IsText bytes.now) (λ e. IsTextErr bytes.now e) }
+        ensures { MatchResult result (λ t. (t ≡ bytes.now) × IsText bytes.now)
+            (λ e. IsTextErr bytes.now e) }
     {
         if bytes.len() > STRING_LIMIT {
             return Err(TextErr::Long { len: bytes.len() });

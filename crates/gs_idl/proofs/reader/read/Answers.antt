@@ -5,7 +5,7 @@ use Rattle.gs_idl.specs.Machine.{run, start}
 use Rattle.gs_idl.specs.Token.{mark_of}
 use Rattle.gs_idl.specs.Reading as r
 use Rattle.gs_idl.specs.Reading.{signs, line_at}
-use Rattle.gs_idl.specs.declared.reader.Stop.{Stop}
+use Rattle.gs_idl.specs.declared.passing.Stop.{Stop}
 use Rattle.gs_idl.specs.declared.token.Token.{Token}
 use Rattle.gs_idl.proofs.Saying.{read_says, read_fault}
 use Rattle.gs_idl.proofs.reader.read.Goals as goal
