@@ -31,3 +31,7 @@ pub record IsDueList
   pub rising : rises 0 count tasks ≡ true
   pub sound : (m : ℕ) → has m tasks ≡ true → IsDue needs done count m
   pub full : (m : ℕ) → IsDue needs done count m → has m tasks ≡ true
+
+-- the counters list exactly the ready tasks, by rising number
+abbrev pub ListsDue : Counters → Type 0
+ListsDue g = IsDueList (waits_in g) (ended_in g) (size_in g) (due_in g)

@@ -2,7 +2,7 @@
 use Rattle.std.specs.Prelude.{ℕ, zero, suc, ◌+◌, ◌-◌, vec_len, vec_capacity, ◌&&◌, not, nat_lt, nat_eq, Bool, true, false, List, [], ◌∷◌, Option, Some, None, slice_get, ◌++◌, ◌==◌, if◌then◌else◌}
 use Rattle.std.specs.declared.vec.Vec.{Vec}
 use Rattle.std.specs.declared.alloc.Global.{Global}
-use Rattle.gs_graph.specs.Numbers.{count_of}
+use Rattle.gs_graph.specs.Numbers.{has, count_of}
 
 abbrev pub flag : Option Bool → Bool
 flag None = false
@@ -11,6 +11,14 @@ flag (Some b) = b
 -- whether a task has finished
 abbrev pub done_at : List Bool → ℕ → Bool
 done_at done m = flag (slice_get done m)
+
+-- the tasks that have finished, and n
+abbrev pub done_too : ℕ → (ℕ → Bool) → ℕ → Bool
+done_too n done m = if n == m then true else done m
+
+-- who waits for whom, and task n for these producers
+abbrev pub waiting_too : ℕ → List ℕ → (ℕ → ℕ → Bool) → ℕ → ℕ → Bool
+waiting_too n producers waits m p = if n == m then has p producers else waits m p
 
 abbrev pub items_of : Option (Vec ℕ Global) → List ℕ
 items_of None = []

@@ -46,6 +46,10 @@ pub record IsReadyList
   pub sound : (n : ℕ) → has n tasks ≡ true → IsReady needs done count n
   pub full : (n : ℕ) → IsReady needs done count n → has n tasks ≡ true
 
+-- the graph lists exactly its ready tasks, by rising number
+abbrev pub ListsReady : Graph → Type 0
+ListsReady g = IsReadyList (needs_in g) (done_in g) (count_in g) (ready_in g)
+
 -- both have the same tasks, waiting for the same ones, with the same ones finished
 pub record SameTasks (old new : Graph) : Type 0 where
   pub count : count_in new ≡ count_in old

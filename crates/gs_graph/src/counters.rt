@@ -21,7 +21,8 @@ pub(crate) struct Counters {
     // The tasks that have not finished and whose producers are all finished.
     ready: Vec<usize>,
     alloc: Global,
-    ghost same: { (length done.items ≡ length missing.items) × (length next.items ≡ length missing.items) },
+    ghost done_same: { length done.items ≡ length missing.items },
+    ghost next_same: { length next.items ≡ length missing.items },
     ghost later: { (p : ℕ) → all_below (length missing.items) (after next.items p) ≡ true },
     ghost opened: { (m : ℕ) → m < length missing.items → slice_index missing.items m
         ≡ open_of (after next.items) (done_at done.items) m (length missing.items) },
@@ -32,10 +33,9 @@ pub(crate) struct Counters {
 }
 
 impl Counters {
-    ghost use Rattle.std.specs.Prelude.{◌≡◌, ◌≤◌, ◌<◌, ◌+◌, ◌==◌, ℕ, length, slice_get, OnOk, OnErr, IfSome, Some, true, false, if◌then◌else◌};
-    ghost use Rattle.gs_graph.specs.Numbers.{has};
-    ghost use Rattle.gs_graph.specs.Edges.{all_below};
-    ghost use Rattle.gs_graph.specs.Counted.{size_in, ended_in, waits_in, due_in, IsDueList};
+    ghost use Rattle.std.specs.Prelude.{◌≡◌, ◌≤◌, ◌<◌, ◌+◌, ℕ, length, slice_get, OnOk, OnErr, IfSome, Some, true, false};
+    ghost use Rattle.gs_graph.specs.Edges.{all_below, done_too, waiting_too};
+    ghost use Rattle.gs_graph.specs.Counted.{size_in, ended_in, waits_in, due_in, ListsDue};
 
     pub(crate) fn new(alloc: Global) -> Counters
         ensures count { size_in result ≡ 0 }
@@ -58,7 +58,7 @@ impl Counters {
         ensures done { (m : ℕ) → ended_in self.new m ≡ ended_in self.old m }
         ensures fresh { OnOk result (ended_in self.new (size_in self.old) ≡ false) }
         ensures needs { OnOk result ((m p : ℕ) → waits_in self.new m p
-            ≡ (if size_in self.old == m then has p producers.now else waits_in self.old m p)) }
+            ≡ waiting_too (size_in self.old) producers.now (waits_in self.old) m p) }
         ensures same { OnErr result ((size_in self.new ≡ size_in self.old) × ((m p : ℕ) →
             waits_in self.new m p ≡ waits_in self.old m p)) }
         ensures list { OnErr result (due_in self.new ≡ due_in self.old) }
@@ -82,7 +82,7 @@ impl Counters {
     pub(crate) fn finish(&mut self, n: usize)
         requires { n < size_in self.old }
         ensures count { size_in self.new ≡ size_in self.old }
-        ensures done { (m : ℕ) → ended_in self.new m ≡ (if n == m then true else ended_in self.old m) }
+        ensures done { (m : ℕ) → ended_in self.new m ≡ done_too n (ended_in self.old) m }
         ensures needs { (m p : ℕ) → waits_in self.new m p ≡ waits_in self.old m p }
     {
         if self.done[n] {
@@ -101,7 +101,7 @@ impl Counters {
     /// The `i`-th of the tasks that may run, by rising number.
     pub(crate) fn ready_at(&self, i: usize) -> Option<usize>
         ensures item { result ≡ slice_get (due_in self.now) i }
-        ensures list { IsDueList (waits_in self.now) (ended_in self.now) (size_in self.now) (due_in self.now) }
+        ensures list { ListsDue self.now }
         ensures within { IfSome result (λ m. m < size_in self.now) }
     {
         item_at(&self.ready, i)

@@ -72,7 +72,8 @@ pub(crate) fn reserve_edges(
 pub(crate) fn push_edges(next: &mut Vec<Vec<usize>>, producers: &[usize], n: usize)
     requires within { all_below (length next.old.items) producers.now ≡ true }
     requires room { (q : ℕ) → count_of q producers.now ≤ room_of next.old.items q }
-    ensures edges { (q : ℕ) → after next.new.items q ≡ ends n q producers.now (after next.old.items q) }
+    ensures edges { (q : ℕ) →
+        after next.new.items q ≡ ends n q producers.now (after next.old.items q) }
     ensures len { length next.new.items ≡ length next.old.items }
     ensures capacity { vec_capacity next.old ≤ vec_capacity next.new }
 {

@@ -30,9 +30,9 @@ fn places(alloc: Global, tasks: &[u32]) -> Result<Vec<usize>, AllocError>
 }
 
 impl Graph {
-    ghost use Rattle.std.specs.Prelude.{◌≡◌, ◌<◌, ◌≤◌, ◌+◌, ◌++◌, ◌∷◌, [], ◌==◌, ℕ, All, slice_get, OnOk, OnErr, true, false, if◌then◌else◌};
-    ghost use Rattle.gs_graph.specs.Numbers.{has};
-    ghost use Rattle.gs_graph.specs.Graph.{count_in, done_in, needs_in, ready_in, actions_in, IsReadyList, SameTasks};
+    ghost use Rattle.std.specs.Prelude.{◌≡◌, ◌<◌, ◌≤◌, ◌+◌, ◌++◌, ◌∷◌, [], ℕ, All, slice_get, OnOk, OnErr, true, false};
+    ghost use Rattle.gs_graph.specs.Edges.{done_too, waiting_too};
+    ghost use Rattle.gs_graph.specs.Graph.{count_in, done_in, needs_in, ready_in, actions_in, ListsReady, SameTasks};
 
     /// A graph without tasks and actions. It takes no memory.
     pub fn new(alloc: Global) -> Graph
@@ -48,8 +48,8 @@ impl Graph {
         }
     }
 
-    /// Adds task `n`, one more than the last, with its producers, which are earlier tasks. On want of
-    /// memory nothing changes.
+    /// Adds task `n`, one more than the last, with its producers, which are earlier tasks. On want
+    /// of memory nothing changes.
     pub fn add(&mut self, n: u32, producers: &[u32]) -> Result<(), NoMemory>
         requires next { n ≡ count_in self.old + 1 }
         requires earlier { All (λ p. (0 < p) × (p < n)) producers.now }
@@ -57,7 +57,7 @@ impl Graph {
         ensures done { OnOk result ((m : ℕ) → done_in self.new m ≡ done_in self.old m) }
         ensures fresh { OnOk result (done_in self.new n ≡ false) }
         ensures needs { OnOk result ((m p : ℕ) →
-            needs_in self.new m p ≡ (if n == m then has p producers.now else needs_in self.old m p)) }
+            needs_in self.new m p ≡ waiting_too n producers.now (needs_in self.old) m p) }
         ensures actions { actions_in self.new ≡ actions_in self.old }
         ensures err { OnErr result (SameTasks self.old self.new) }
     {
@@ -70,18 +70,18 @@ impl Graph {
     pub fn finish(&mut self, n: u32)
         requires { (0 < n) × (n ≤ count_in self.old) }
         ensures count { count_in self.new ≡ count_in self.old }
-        ensures done { (m : ℕ) → done_in self.new m ≡ (if n == m then true else done_in self.old m) }
+        ensures done { (m : ℕ) → done_in self.new m ≡ done_too n (done_in self.old) m }
         ensures needs { (m p : ℕ) → needs_in self.new m p ≡ needs_in self.old m p }
         ensures actions { actions_in self.new ≡ actions_in self.old }
     {
         self.counters.finish(n as usize - 1);
     }
 
-    /// The `i`-th, from 0, by rising number, of the tasks that have not finished and whose producers
-    /// are all finished. `None` exactly past the last of them.
+    /// The `i`-th, from 0, by rising number, of the tasks that have not finished and whose
+    /// producers are all finished. `None` exactly past the last of them.
     pub fn ready_at(&self, i: u32) -> Option<u32>
         ensures item { result ≡ slice_get (ready_in self.now) i }
-        ensures list { IsReadyList (needs_in self.now) (done_in self.now) (count_in self.now) (ready_in self.now) }
+        ensures list { ListsReady self.now }
     {
         match self.counters.ready_at(i as usize) {
             Some(place) => Some(place as u32 + 1),

@@ -1,13 +1,13 @@
 // A producer has finished.
 ghost use Rattle.std.specs.Prelude.{◌≡◌, ◌≤◌, ◌<◌, ◌+◌, ◌==◌, ◌&&◌, not, nat_eq, ℕ, length, slice_index, true, false, vec_capacity, if◌then◌else◌};
 ghost use Rattle.gs_graph.specs.Numbers.{has, rises, put_in, one_if, count_of};
-ghost use Rattle.gs_graph.specs.Edges.{done_at, is_due, all_below};
+ghost use Rattle.gs_graph.specs.Edges.{done_at, done_too, is_due, all_below};
 
 use crate::numbers::put;
 
 pub(crate) fn set_done(done: &mut Vec<bool>, n: usize)
     requires { n < length done.old.items }
-    ensures done { (m : ℕ) → done_at done.new.items m ≡ (if n == m then true else done_at done.old.items m) }
+    ensures done { (m : ℕ) → done_at done.new.items m ≡ done_too n (done_at done.old.items) m }
     ensures len { length done.new.items ≡ length done.old.items }
 {
     done[n] = true;

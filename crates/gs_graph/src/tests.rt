@@ -80,8 +80,8 @@ fn a_task_waits_for_a_producer_that_is_named_twice(rt: HostRuntime) -> Result<()
     Ok(())
 }
 
-// `join("A", "B", "C"); join("B", "A", "C");` and `join("A", "B", "C"); grow("A", "x");`: neither call
-// reads what the other writes.
+// `join("A", "B", "C"); join("B", "A", "C");` and `join("A", "B", "C"); grow("A", "x");`:
+// neither call reads what the other writes.
 #[test]
 fn tasks_that_read_no_output_are_ready_at_once(rt: HostRuntime) -> Result<(), Fail> {
     let mut graph = Graph::new(rt.alloc());

@@ -1,6 +1,6 @@
 -- What was written, the newest write first.
-use Rattle.std.specs.Prelude.{ℕ, List, [], ◌∷◌, ◌++◌, if◌then◌else◌, bytes_eq}
-use Rattle.std.specs.List.{list_any}
+use Rattle.std.specs.Prelude.{ℕ, List, [], ◌∷◌, ◌++◌, if◌then◌else◌, map, bytes_eq}
+use Rattle.std.specs.List.{list_any, position_or_len}
 use Rattle.indexmap.specs.IndexMap.{insert_entry}
 use Rattle.gs_types.specs.declared.note.Version.{Version}
 use Rattle.gs_types.specs.declared.note.Version.TheVariants.{Original}
@@ -19,9 +19,17 @@ abbrev pub latest : List ℕ → List Write → Version
 latest x [] = Original x
 latest x (w ∷ ws) = if bytes_eq x w.0 then w.1 else latest x ws
 
+-- a name's number: its place among the names, or behind them if it isn't among them
+abbrev pub number_of : List ℕ → List (List ℕ) → ℕ
+number_of x xs = position_or_len (bytes_eq x) xs
+
 -- the names, each once: one more goes behind the others if it isn't among them
 abbrev pub with_name : List (List ℕ) → List ℕ → List (List ℕ)
 with_name xs x = if list_any (bytes_eq x) xs then xs else xs ++ x ∷ []
+
+-- the names that were written
+abbrev pub names_of : List Write → List (List ℕ)
+names_of ws = map (λ w. w.0) ws
 
 -- the written names in the order of their first writing
 abbrev pub first_written : List Write → List (List ℕ)

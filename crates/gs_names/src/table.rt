@@ -36,9 +36,8 @@ fn copies_of(
 }
 
 impl NameTable {
-    ghost use Rattle.std.specs.Prelude.{◌≡◌, ◌<◌, ◌≤◌, ◌+◌, ◌-◌, ◌^◌, ◌∷◌, [], length, map, bytes_eq, slice_get, OnOk, OnErr, IfOk, Some};
-    ghost use Rattle.std.specs.List.{position_or_len};
-    ghost use Rattle.gs_names.specs.Writes.{latest, finals_of, first_written, with_name};
+    ghost use Rattle.std.specs.Prelude.{◌≡◌, ◌<◌, ◌≤◌, ◌+◌, ◌-◌, ◌^◌, ◌∷◌, [], length, slice_get, OnOk, OnErr, IfOk, Some};
+    ghost use Rattle.gs_names.specs.Writes.{latest, finals_of, first_written, names_of, number_of, with_name};
     ghost use Rattle.gs_names.specs.Table.{names_in, writes_in, spare_in};
 
     /// A table without names. It takes no memory.
@@ -58,7 +57,7 @@ impl NameTable {
     pub fn number(&mut self, name: Name) -> Result<u32, NoMemory>
         requires { length (names_in self.old) < 2 ^ 32 - 1 }
         ensures names { OnOk result (names_in self.new ≡ with_name (names_in self.old) name) }
-        ensures number { IfOk result (λ i. i ≡ position_or_len (bytes_eq name) (names_in self.old)) }
+        ensures number { IfOk result (λ i. i ≡ number_of name (names_in self.old)) }
         ensures at { IfOk result (λ i. slice_get (names_in self.new) i ≡ Some name) }
         ensures err { OnErr result (names_in self.new ≡ names_in self.old) }
         ensures writes { writes_in self.new ≡ writes_in self.old }
@@ -124,7 +123,7 @@ impl NameTable {
     /// The written names in the order of their first writing, each with its last version.
     pub fn finals(&self, alloc: Global) -> Result<Vec<(Name, Version)>, NoMemory>
         ensures finals { IfOk result (λ v. v.items ≡ finals_of (writes_in self.now)) }
-        ensures names { IfOk result (λ v. map (λ f. f.0) v.items ≡ first_written (writes_in self.now)) }
+        ensures names { IfOk result (λ v. names_of v.items ≡ first_written (writes_in self.now)) }
     {
         let finals = copies_of(alloc, &self.finals)?;
         Ok(finals)

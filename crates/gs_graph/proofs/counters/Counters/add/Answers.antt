@@ -79,14 +79,15 @@ invariant_of-self-2 c =
     let ready : c.put_if.new.ready.items ≡ (if nat_eq c.open_count-open.result 0 then put_in count old.ready.items else old.ready.items) = c.put_if.ensures.items
     ∙ ap (λ (xs : List ℕ). if nat_eq c.open_count-open.result 0 then put_in n xs else xs) c.reserve-4.ensures.items ∙ ap (λ (i : ℕ). if nat_eq c.open_count-open.result 0 then put_in i old.ready.items else old.ready.items) is_n in
     let last : slice_index c.push_last-2.new.xs.items count ≡ c.open_count-open.result = ap (λ (xs : List ℕ). slice_index xs count) missing ∙ index_last old.missing.items c.open_count-open.result in
-    let fresh : done_at old.done.items count ≡ false = never_done old.done.items count (let s = old.same.0 in omega arith) in
+    let fresh : done_at old.done.items count ≡ false = never_done old.done.items count (let s = old.done_same in omega arith) in
     record {
-      same = (let a = ap length done ∙ one_longer old.done.items false in let b = old.same.0 in omega arith, let a = c.push_edges.ensures.len in let b = ap length c.reserve-3.ensures.items in let d = c.reserve_edges.ensures.len in let e = old.same.1 in omega arith);
+      done_same = let a = ap length done ∙ one_longer old.done.items false in let b = old.done_same in omega arith;
+      next_same = let a = c.push_edges.ensures.len in let b = ap length c.reserve-3.ensures.items in let d = c.reserve_edges.ensures.len in let e = old.next_same in omega arith;
       later = λ p. ap (λ (i : ℕ). all_below i (now p)) len ∙ ap (all_below (suc count)) (edges p) ∙ below_ends count p ps (after old.next.items p) (below_more count (after old.next.items p) (old.later p));
       opened = λ m below. elim (cases_lt m count) [
         | inl before ↦
             let was = old.opened m before in
-            let here = earlier old.next.items now (done_at old.done.items) (done_at c.push_last-3.new.xs.items) ps count m old.same.1 edges done_same before in
+            let here = earlier old.next.items now (done_at old.done.items) (done_at c.push_last-3.new.xs.items) ps count m old.next_same edges done_same before in
             ap (λ (xs : List ℕ). slice_index xs m) missing ∙ index_front old.missing.items c.open_count-open.result m before ∙ was ∙ sym here ∙ ap (open_of now (done_at c.push_last-3.new.xs.items) m) (sym len)
         | inr above ↦
             let is_m : m ≡ count = omega arith in
@@ -119,4 +120,4 @@ returns-clause-fresh c =
     let old = c.args.self.now in
     let count = length old.missing.items in
     let done : c.push_last-3.new.xs.items ≡ old.done.items ++ false ∷ [] = c.push_last-3.ensures ∙ ap (λ (xs : List Bool). xs ++ false ∷ []) c.reserve-2.ensures.items in
-    ap (λ (ds : List Bool). done_at ds count) done ∙ done_pushed old.done.items count ∙ never_done old.done.items count (let s = old.same.0 in omega arith)
+    ap (λ (ds : List Bool). done_at ds count) done ∙ done_pushed old.done.items count ∙ never_done old.done.items count (let s = old.done_same in omega arith)

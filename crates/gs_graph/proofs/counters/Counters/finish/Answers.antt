@@ -36,8 +36,8 @@ lower_all-requires-clause-enough c = λ m.
     let n = c.args.n in
     let count = length old.missing.items in
     let lt : n < count = c.requires in
-    let next_n : c.deref-2.result.now ≡ after old.next.items n = c.deref-2.ensures.value ∙ sym (after_item old.next.items n c.index-2.result.now (let s = old.same.1 in omega arith) c.index-2.ensures) in
-    let not_yet : done_at old.done.items n ≡ false = done_item old.done.items n c.index.result.now (let s = old.same.0 in omega arith) c.index.ensures ∙ c.if-index.false in
+    let next_n : c.deref-2.result.now ≡ after old.next.items n = c.deref-2.ensures.value ∙ sym (after_item old.next.items n c.index-2.result.now (let s = old.next_same in omega arith) c.index-2.ensures) in
+    let not_yet : done_at old.done.items n ≡ false = done_item old.done.items n c.index.result.now (let s = old.done_same in omega arith) c.index.ensures ∙ c.if-index.false in
     let same : count_of m c.deref-2.result.now ≡ count_of m (after old.next.items n) = ap (count_of m) next_n in
     elim (cases_lt m count) [
       | inl below ↦ let was = old.opened m below in let less = open_less (after old.next.items) (done_at old.done.items) (done_at c.set_done.new.done.items) m n count c.set_done.ensures.done not_yet lt in omega arith
@@ -65,10 +65,11 @@ invariant_of-self-2 c =
     let count = length old.missing.items in
     let lt : n < count = c.requires in
     let len : length c.lower_all.new.missing.items ≡ count = c.lower_all.ensures.len in
-    let next_n : c.deref-2.result.now ≡ after old.next.items n = c.deref-2.ensures.value ∙ sym (after_item old.next.items n c.index-2.result.now (let s = old.same.1 in omega arith) c.index-2.ensures) in
-    let not_yet : done_at old.done.items n ≡ false = done_item old.done.items n c.index.result.now (let s = old.same.0 in omega arith) c.index.ensures ∙ c.if-index.false in
+    let next_n : c.deref-2.result.now ≡ after old.next.items n = c.deref-2.ensures.value ∙ sym (after_item old.next.items n c.index-2.result.now (let s = old.next_same in omega arith) c.index-2.ensures) in
+    let not_yet : done_at old.done.items n ≡ false = done_item old.done.items n c.index.result.now (let s = old.done_same in omega arith) c.index.ensures ∙ c.if-index.false in
     record {
-      same = (let a = c.set_done.ensures.len in let b = old.same.0 in omega arith, let b = old.same.1 in omega arith);
+      done_same = let a = c.set_done.ensures.len in let b = old.done_same in omega arith;
+      next_same = let b = old.next_same in omega arith;
       later = λ p. ap (λ (i : ℕ). all_below i (after old.next.items p)) len ∙ old.later p;
       opened = λ m below.
           let was = old.opened m (omega arith) in

@@ -58,7 +58,7 @@ returns-clause-list c =
     let count = length g.missing.items in
     record {
       rising = g.rising;
-      sound = λ m is. due_ready g.next.items (done_at g.done.items) (slice_index g.missing.items) count m (g.same.1) (g.opened m) (sym (g.listed m) ∙ is);
+      sound = λ m is. due_ready g.next.items (done_at g.done.items) (slice_index g.missing.items) count m (g.next_same) (g.opened m) (sym (g.listed m) ∙ is);
       full = λ m ready. g.listed m ∙ ready_due g.next.items (done_at g.done.items) (slice_index g.missing.items) count m (g.opened m) ready;
     }
 
