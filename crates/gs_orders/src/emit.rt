@@ -7,7 +7,7 @@ ghost use Rattle.gs_talk.specs.Terms.{placed};
 ghost use Rattle.gs_talk.specs.Talk.{test_or_true};
 ghost use Rattle.gs_talk.specs.View.{placed_of};
 ghost use Rattle.gs_orders.specs.Says.{scene, SaysProgram};
-ghost use Rattle.gs_orders.specs.Emitted.{Kept, Wrote, WroteAll, WroteElseOf, WroteTest, WroteFirst};
+ghost use Rattle.gs_orders.specs.Emitted.{Kept, Emits, EmitsAll, EmitsElse, EmitsFirst, EmitsTest};
 
 use crate::order::Order;
 use crate::plain::{
@@ -35,7 +35,8 @@ fn test_formula(
     e: &Option<Expr>,
     line: u32,
 ) -> Result<Formula, NoMemory>
-    ensures { IfOk result (λ f. placed_of f ≡ placed names.now (test_or_true (option_map term_of e.now) line)) }
+    ensures { IfOk result (λ f.
+        placed_of f ≡ placed names.now (test_or_true (option_map term_of e.now) line)) }
 {
     match e {
         None => Ok(Formula::Num { v: 1 }),
@@ -57,7 +58,8 @@ fn emit_test(
     orders: &mut Vec<Order>,
 ) -> Result<usize, NoMemory>
     ensures kept { OnOk result (Kept orders.old.items orders.new.items) }
-    ensures says { IfOk result (λ here. WroteTest (scene names.now idl.now.ops) orders.old.items here line (term_of cond.now) (codes_of yes.now) no next orders.new.items) }
+    ensures says { EmitsTest (scene names.now idl.now.ops) orders.old.items
+        line (term_of cond.now) (codes_of yes.now) no next result orders.new.items }
 {
     let value = Formula::of(alloc, cond, names)?;
     let yes = emit_all(yes, alloc, names, idl, next, orders)?;
@@ -83,7 +85,8 @@ fn emit_else(
     orders: &mut Vec<Order>,
 ) -> Result<usize, NoMemory>
     ensures kept { OnOk result (Kept orders.old.items orders.new.items) }
-    ensures says { IfOk result (λ here. WroteElseOf (scene names.now idl.now.ops) orders.old.items here no.now next orders.new.items) }
+    ensures says { EmitsElse (scene names.now idl.now.ops) orders.old.items
+        no.now next result orders.new.items }
 {
     match no {
         None => Ok(next),
@@ -104,7 +107,8 @@ fn emit_while(
     orders: &mut Vec<Order>,
 ) -> Result<usize, NoMemory>
     ensures kept { OnOk result (Kept orders.old.items orders.new.items) }
-    ensures says { IfOk result (λ here. Wrote (scene names.now idl.now.ops) orders.old.items here (tree.while line (term_of cond.now) (codes_of body.now)) next orders.new.items) }
+    ensures says { Emits (scene names.now idl.now.ops) orders.old.items
+        (tree.while line (term_of cond.now) (codes_of body.now)) next result orders.new.items }
 {
     let value = Formula::of(alloc, cond, names)?;
     let here = add(orders, Order::Leave { line })?;
@@ -133,7 +137,10 @@ fn emit_for(
     orders: &mut Vec<Order>,
 ) -> Result<usize, NoMemory>
     ensures kept { OnOk result (Kept orders.old.items orders.new.items) }
-    ensures says { IfOk result (λ here. Wrote (scene names.now idl.now.ops) orders.old.items here (tree.for line (option_map setting_of first.now) (option_map term_of cond.now) (option_map setting_of step.now) (codes_of body.now)) next orders.new.items) }
+    ensures says { Emits (scene names.now idl.now.ops) orders.old.items
+        (tree.for line (option_map setting_of first.now) (option_map term_of cond.now)
+        (option_map setting_of step.now) (codes_of body.now))
+        next result orders.new.items }
 {
     let value = test_formula(alloc, names, cond, line)?;
     let test = add(orders, Order::Leave { line })?;
@@ -159,7 +166,8 @@ fn emit(
     orders: &mut Vec<Order>,
 ) -> Result<usize, NoMemory>
     ensures kept { OnOk result (Kept orders.old.items orders.new.items) }
-    ensures says { IfOk result (λ here. Wrote (scene names.now idl.now.ops) orders.old.items here (code_of s.now) next orders.new.items) }
+    ensures says { Emits (scene names.now idl.now.ops) orders.old.items
+        (code_of s.now) next result orders.new.items }
 {
     match s {
         Stmt::Empty { line } => emit_skip(*line, names, idl, next, orders),
@@ -229,7 +237,8 @@ fn emit_all(
     orders: &mut Vec<Order>,
 ) -> Result<usize, NoMemory>
     ensures kept { OnOk result (Kept orders.old.items orders.new.items) }
-    ensures says { IfOk result (λ here. WroteAll (scene names.now idl.now.ops) orders.old.items here (codes_of body.now) next orders.new.items) }
+    ensures says { EmitsAll (scene names.now idl.now.ops) orders.old.items
+        (codes_of body.now) next result orders.new.items }
 {
     let mut here = next;
     let mut i = body.len();
@@ -249,7 +258,8 @@ fn emit_first(
     orders: &mut Vec<Order>,
 ) -> Result<usize, NoMemory>
     ensures kept { OnOk result (Kept orders.old.items orders.new.items) }
-    ensures says { IfOk result (λ here. WroteFirst (scene names.now idl.now.ops) orders.old.items here (map setting_of first.now) next orders.new.items) }
+    ensures says { EmitsFirst (scene names.now idl.now.ops) orders.old.items
+        (map setting_of first.now) next result orders.new.items }
 {
     let mut here = next;
     let mut i = first.len();
@@ -270,7 +280,8 @@ pub struct Orders {
 /// Makes the orders of a program whose variables have these names, in the order of their declaration: one for each
 /// assignment, test, call, print and the like, one for GS_On, and the last for GS_Off. The only error is want of memory.
 pub fn orders_of(alloc: Global, tree: &Tree, idl: &Idl, names: &[Blob]) -> Result<Orders, NoMemory>
-    ensures { IfOk result (λ o. SaysProgram (scene names.now idl.now.ops) o.list.items o.start (program_of tree.now)) }
+    ensures { IfOk result (λ o.
+        SaysProgram (scene names.now idl.now.ops) o.list.items o.start (program_of tree.now)) }
 {
     let mut list = Vec::new(alloc);
     let off = add(&mut list, Order::Leave { line: tree.off })?;

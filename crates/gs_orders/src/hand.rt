@@ -57,7 +57,8 @@ fn hand(
     kind: ParamKind,
     a: &Argument,
 ) -> Result<Handed, NoMemory>
-    ensures { (p : Param) → p.dir ≡ dir → p.kind ≡ kind → IfOk result (λ h. handed_of h ≡ handed names.now p (passed_of a.now)) }
+    ensures { (p : Param) → p.dir ≡ dir → p.kind ≡ kind →
+        IfOk result (λ h. handed_of h ≡ handed names.now p (passed_of a.now)) }
 {
     if is_out_scalar(dir, kind) {
         Ok(Handed::Into {
@@ -78,7 +79,8 @@ pub(crate) fn hand_all(
     args: &[Argument],
 ) -> Result<Vec<Handed>, NoMemory>
     requires { op < length idl.now.ops }
-    ensures { IfOk result (λ all. map handed_of all.items ≡ all_handed names.now (params_at idl.now.ops op) (map passed_of args.now)) }
+    ensures { IfOk result (λ all. map handed_of all.items
+        ≡ all_handed names.now (params_at idl.now.ops op) (map passed_of args.now)) }
 {
     let mut all = Vec::new(alloc);
     for j in 0..args.len().min(idl.param_count(op) as usize) {

@@ -4,7 +4,7 @@ ghost use Rattle.std.specs.Option.{option_map};
 ghost use Rattle.gs_tree.specs.Program as tree;
 ghost use Rattle.gs_tree.specs.View.{name_of, term_of, setting_of, formatted_of, passed_of};
 ghost use Rattle.gs_orders.specs.Says.{scene};
-ghost use Rattle.gs_orders.specs.Emitted.{Added, Kept, Wrote, WroteMaybe};
+ghost use Rattle.gs_orders.specs.Emitted.{Added, Kept, Emits, EmitsMaybe};
 
 use crate::hand::hand_all;
 use crate::order::Order;
@@ -32,7 +32,8 @@ pub(crate) fn emit_set(
     orders: &mut Vec<Order>,
 ) -> Result<usize, NoMemory>
     ensures kept { OnOk result (Kept orders.old.items orders.new.items) }
-    ensures says { IfOk result (λ here. Wrote (scene names.now idl.now.ops) orders.old.items here (tree.set (setting_of a.now)) next orders.new.items) }
+    ensures says { Emits (scene names.now idl.now.ops) orders.old.items
+        (tree.set (setting_of a.now)) next result orders.new.items }
 {
     let value = Formula::of(alloc, &a.value, names)?;
     let to = place_of(names, &a.to.name);
@@ -56,7 +57,8 @@ pub(crate) fn emit_maybe(
     orders: &mut Vec<Order>,
 ) -> Result<usize, NoMemory>
     ensures kept { OnOk result (Kept orders.old.items orders.new.items) }
-    ensures says { IfOk result (λ here. WroteMaybe (scene names.now idl.now.ops) orders.old.items here (option_map setting_of a.now) next orders.new.items) }
+    ensures says { EmitsMaybe (scene names.now idl.now.ops) orders.old.items
+        (option_map setting_of a.now) next result orders.new.items }
 {
     match a {
         None => Ok(next),
@@ -76,7 +78,9 @@ pub(crate) fn emit_open(
     orders: &mut Vec<Order>,
 ) -> Result<usize, NoMemory>
     ensures kept { OnOk result (Kept orders.old.items orders.new.items) }
-    ensures says { IfOk result (λ here. Wrote (scene names.now idl.now.ops) orders.old.items here (tree.open_file line (name_of to.now) (term_of path.now) mode) next orders.new.items) }
+    ensures says { Emits (scene names.now idl.now.ops) orders.old.items
+        (tree.open_file line (name_of to.now) (term_of path.now) mode)
+        next result orders.new.items }
 {
     let path = Formula::of(alloc, path, names)?;
     let to = place_of(names, &to.name);
@@ -103,7 +107,9 @@ pub(crate) fn emit_read(
     orders: &mut Vec<Order>,
 ) -> Result<usize, NoMemory>
     ensures kept { OnOk result (Kept orders.old.items orders.new.items) }
-    ensures says { IfOk result (λ here. Wrote (scene names.now idl.now.ops) orders.old.items here (tree.read_line line (name_of got.now) (name_of handle.now) (name_of to.now)) next orders.new.items) }
+    ensures says { Emits (scene names.now idl.now.ops) orders.old.items
+        (tree.read_line line (name_of got.now) (name_of handle.now) (name_of to.now))
+        next result orders.new.items }
 {
     let got = place_of(names, &got.name);
     let handle = place_of(names, &handle.name);
@@ -129,7 +135,8 @@ pub(crate) fn emit_close(
     orders: &mut Vec<Order>,
 ) -> Result<usize, NoMemory>
     ensures kept { OnOk result (Kept orders.old.items orders.new.items) }
-    ensures says { IfOk result (λ here. Wrote (scene names.now idl.now.ops) orders.old.items here (tree.close_file line (name_of handle.now)) next orders.new.items) }
+    ensures says { Emits (scene names.now idl.now.ops) orders.old.items
+        (tree.close_file line (name_of handle.now)) next result orders.new.items }
 {
     let handle = place_of(names, &handle.name);
     add(orders, Order::Close { line, handle, next })
@@ -143,7 +150,8 @@ pub(crate) fn emit_wait(
     orders: &mut Vec<Order>,
 ) -> Result<usize, NoMemory>
     ensures kept { OnOk result (Kept orders.old.items orders.new.items) }
-    ensures says { IfOk result (λ here. Wrote (scene names.now idl.now.ops) orders.old.items here (tree.barrier line) next orders.new.items) }
+    ensures says { Emits (scene names.now idl.now.ops) orders.old.items
+        (tree.barrier line) next result orders.new.items }
 {
     add(orders, Order::Wait { line, next })
 }
@@ -156,7 +164,8 @@ pub(crate) fn emit_skip(
     orders: &mut Vec<Order>,
 ) -> Result<usize, NoMemory>
     ensures kept { OnOk result (Kept orders.old.items orders.new.items) }
-    ensures says { IfOk result (λ here. Wrote (scene names.now idl.now.ops) orders.old.items here (tree.empty line) next orders.new.items) }
+    ensures says { Emits (scene names.now idl.now.ops) orders.old.items
+        (tree.empty line) next result orders.new.items }
 {
     add(orders, Order::Skip { line, next })
 }
@@ -172,7 +181,9 @@ pub(crate) fn emit_print(
     orders: &mut Vec<Order>,
 ) -> Result<usize, NoMemory>
     ensures kept { OnOk result (Kept orders.old.items orders.new.items) }
-    ensures says { IfOk result (λ here. Wrote (scene names.now idl.now.ops) orders.old.items here (tree.print line (formatted_of format.now) (map term_of args.now)) next orders.new.items) }
+    ensures says { Emits (scene names.now idl.now.ops) orders.old.items
+        (tree.print line (formatted_of format.now) (map term_of args.now))
+        next result orders.new.items }
 {
     let args = formulas(alloc, args, names)?;
     let format = Blob::copy(alloc, &format.s)?;
@@ -199,7 +210,9 @@ pub(crate) fn emit_print_file(
     orders: &mut Vec<Order>,
 ) -> Result<usize, NoMemory>
     ensures kept { OnOk result (Kept orders.old.items orders.new.items) }
-    ensures says { IfOk result (λ here. Wrote (scene names.now idl.now.ops) orders.old.items here (tree.print_file line (name_of handle.now) (formatted_of format.now) (map term_of args.now)) next orders.new.items) }
+    ensures says { Emits (scene names.now idl.now.ops) orders.old.items
+        (tree.print_file line (name_of handle.now) (formatted_of format.now) (map term_of args.now))
+        next result orders.new.items }
 {
     let args = formulas(alloc, args, names)?;
     let format = Blob::copy(alloc, &format.s)?;
@@ -228,7 +241,9 @@ pub(crate) fn emit_print_str(
     orders: &mut Vec<Order>,
 ) -> Result<usize, NoMemory>
     ensures kept { OnOk result (Kept orders.old.items orders.new.items) }
-    ensures says { IfOk result (λ here. Wrote (scene names.now idl.now.ops) orders.old.items here (tree.print_str line (name_of to.now) (formatted_of format.now) (map term_of args.now)) next orders.new.items) }
+    ensures says { Emits (scene names.now idl.now.ops) orders.old.items
+        (tree.print_str line (name_of to.now) (formatted_of format.now) (map term_of args.now))
+        next result orders.new.items }
 {
     let args = formulas(alloc, args, names)?;
     let format = Blob::copy(alloc, &format.s)?;
@@ -255,7 +270,8 @@ pub(crate) fn emit_call(
     orders: &mut Vec<Order>,
 ) -> Result<usize, NoMemory>
     ensures kept { OnOk result (Kept orders.old.items orders.new.items) }
-    ensures says { IfOk result (λ here. Wrote (scene names.now idl.now.ops) orders.old.items here (tree.call (name_of op.now) (map passed_of args.now)) next orders.new.items) }
+    ensures says { Emits (scene names.now idl.now.ops) orders.old.items
+        (tree.call (name_of op.now) (map passed_of args.now)) next result orders.new.items }
 {
     let line = op.line;
     let op = match idl.find(&op.name) {

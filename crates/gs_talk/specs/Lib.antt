@@ -1,6 +1,7 @@
 pub mod Terms
 pub mod Values
 pub mod Texts
+pub mod Dialogues
 pub mod Talk
 pub mod Seq
 pub mod Actions

@@ -16,6 +16,9 @@ pub record Variables : Type 0 where
   pub kinds : List VarKind
   pub slots : List Slot
 
+abbrev pub variables : (names : List (List ℕ)) (kinds : List VarKind) (slots : List Slot) → Variables
+variables names kinds slots = record { names = names; kinds = kinds; slots = slots }
+
 -- each name has a kind and a slot
 pub record IsPaired (names : List (List ℕ)) (kinds : List VarKind) (slots : List Slot) : Type 0 where
   pub a_kind : length kinds ≡ length names
@@ -23,7 +26,7 @@ pub record IsPaired (names : List (List ℕ)) (kinds : List VarKind) (slots : Li
 
 -- each with its first value
 abbrev pub first_variables : List (Name × VarKind) → Variables
-first_variables vars = record { names = map (λ v. v.0.text) vars; kinds = map (λ v. v.1) vars; slots = map (λ v. first_slot v.1) vars }
+first_variables vars = variables (map (λ v. v.0.text) vars) (map (λ v. v.1) vars) (map (λ v. first_slot v.1) vars)
 
 abbrev pub kind_named : Variables → List ℕ → Option VarKind
 kind_named vars name = slice_get vars.kinds (place_of vars.names name)

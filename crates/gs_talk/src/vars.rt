@@ -20,11 +20,11 @@ pub struct Vars {
 }
 
 impl Model for Vars {
-    ghost use Rattle.gs_talk.specs.Variables.{Variables, IsPaired};
+    ghost use Rattle.gs_talk.specs.Variables.{Variables, IsPaired, variables};
 
     ghost Value = { Variables };
 
-    ghost view = { λ v. record { names = v.names.items; kinds = v.kinds.items; slots = v.slots.items } };
+    ghost view = { λ v. variables v.names.items v.kinds.items v.slots.items };
 
     ghost invariant = { λ v. IsPaired v.names.items v.kinds.items v.slots.items };
 }
