@@ -1,0 +1,20 @@
+//! The entries of a run's record as bytes, and in order.
+#![tactic(auto)]
+
+mod actions;
+mod book;
+mod entry;
+mod failure;
+mod gate;
+mod notes;
+mod payload;
+mod spelled;
+
+pub use book::Book;
+pub use entry::{Entry, GateNote, Stage, Texts};
+pub use failure::Failure;
+pub use payload::{decode, encode};
+pub use spelled::Spelled;
+
+#[cfg(test)]
+mod tests;
