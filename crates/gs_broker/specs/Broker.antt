@@ -1,9 +1,12 @@
 -- What a broker says, as plain functions.
-use Rattle.std.specs.Prelude.{◌≡◌, ◌≤◌, ◌+◌, ◌-◌, ◌==◌, if◌then◌else◌, true, Some, ℕ, ◌&&◌, nat_lt, nat_eq, Bool, false, Option, None, is_some, slice_index}
+use Rattle.std.specs.Prelude.{◌≡◌, ◌≤◌, ◌+◌, ◌-◌, ◌==◌, if◌then◌else◌, true, Some, ℕ, ◌&&◌, nat_lt, nat_eq, Bool, false, List, Option, None, is_some, slice_index}
 use Rattle.std.specs.HashMap.{get as line_at, spare}
 use Rattle.slab.specs.Slab.{get as flight_at}
 use Rattle.gs_broker.specs.Workers.{slots_at, takes_at}
-use Rattle.gs_broker.specs.Counts.{is_on}
+use Rattle.gs_broker.specs.Counts.{is_on, IsStranded}
+use Rattle.gs_policy.specs.Cost.{Cost}
+use Rattle.gs_broker.specs.Choice.{IsChosen}
+use Rattle.gs_broker.specs.declared.choice.Ready.{Ready}
 use Rattle.gs_broker.specs.Tasks.{key_of, failures_of, worker_at}
 use Rattle.gs_broker.specs.declared.workers.Workers.{Workers}
 use Rattle.gs_broker.specs.Listed.{slots_of_list, takes_of_list}
@@ -100,3 +103,11 @@ pub record IsEnded (n : ℕ) (old new : Broker) : Type 0 where
   pub busy : (u : ℕ) → busy_in new u ≡ busy_in old u - is_on (job_in old n) u
   pub known : (m : ℕ) → is_known new m ≡ is_known old m
   pub spare : spare_in old ≤ spare_in new
+
+-- each worker that takes the operation has failed too often
+abbrev pub IsStrandedIn : Broker → ℕ → Type 0
+IsStrandedIn b op = IsStranded (takes_in b) (lapses_in b) op
+
+-- the task and the worker that cost least, or there are none
+abbrev pub IsPicked : Cost → Broker → List Ready → Option (ℕ × ℕ) → Type 0
+IsPicked cost b ready picked = IsChosen cost (takes_in b) (usable_in b) ready picked

@@ -6,3 +6,7 @@ pub mod Counts
 pub mod Outcome
 pub mod Broker
 pub mod Stranded
+pub mod Text
+pub mod Reading
+pub mod Answer
+pub mod TextLaws

@@ -1,7 +1,14 @@
 -- Tasks that no worker can take any more.
-use Rattle.std.specs.Prelude.{◌≡◌, ℕ, ◌≤◌, Bool, List, [], ◌∷◌, Option, Some, None, slice_get, if◌then◌else◌}
+use Rattle.std.specs.Prelude.{◌≡◌, ℕ, ◌≤◌, Bool, List, [], ◌∷◌, Option, Some, None, length, slice_index, slice_get, if◌then◌else◌}
 use Rattle.gs_broker.specs.Outcome.{lesser}
+use Rattle.gs_broker.specs.Counts.{has_live}
+use Rattle.gs_broker.specs.Workers.{takes_at}
+use Rattle.gs_broker.specs.declared.workers.Worker.{Worker}
 use Rattle.gs_broker.specs.declared.choice.Ready.{Ready}
+
+-- whether a worker that takes the operation has not failed too often
+abbrev pub live_in : List Worker → List ℕ → ℕ → Bool
+live_in workers lapses op = has_live (takes_at workers) (slice_index lapses) op (length workers)
 
 abbrev pub scan_stranded : (ℕ → Bool) → List Ready → Option ℕ → Option ℕ
 scan_stranded live [] least = least

@@ -36,16 +36,16 @@ pub struct Broker {
 
 impl Broker {
     ghost use Rattle.std.specs.Prelude.{◌≡◌, ◌≤◌, ◌<◌, ◌+◌, ◌-◌, ◌==◌, ◌⊎◌, ℕ, length, slice_get, slice_index, IfOk, OnOk, IsSome, Some, None, min, if◌then◌else◌, true, false};
-    ghost use Rattle.gs_broker.specs.Choice.{AreInRange, IsChosen};
-    ghost use Rattle.gs_broker.specs.Counts.{is_on, most, IsStranded};
+    ghost use Rattle.gs_broker.specs.Choice.{AreInRange};
+    ghost use Rattle.gs_broker.specs.Counts.{is_on, most};
     ghost use Rattle.gs_broker.specs.Workers.{slots_at};
-    ghost use Rattle.gs_broker.specs.Broker.{slots_in, takes_in, tries_in, job_in, busy_in, failures_in, lapses_in, is_known, spare_in, usable_in, IsFresh, SameWorkers, SameJobs, workers_in, IsStarted, IsEnded};
+    ghost use Rattle.gs_broker.specs.Broker.{slots_in, takes_in, tries_in, job_in, busy_in, failures_in, lapses_in, is_known, spare_in, usable_in, IsFresh, SameWorkers, SameJobs, workers_in, IsStarted, IsEnded, IsStrandedIn, IsPicked};
     ghost use Rattle.gs_broker.specs.Stranded.{IsLeastStranded};
     ghost use Rattle.gs_broker.specs.Outcome.{IsLoss};
     ghost use Rattle.gs_types.specs.declared.limits.TheConstants.{TRIES_LIMIT};
 
-    /// A broker of these workers: no job is in flight, nothing has failed, and a task is lost at its
-    /// `tries`-th failure.
+    /// A broker of these workers: no job is in flight, nothing has failed, and a task is lost at
+    /// its `tries`-th failure.
     pub fn new(alloc: Global, workers: Workers, tries: u32) -> Result<Broker, NoMemory>
         requires { (1 ≤ tries) × (tries ≤ TRIES_LIMIT) }
         ensures { IfOk result (IsFresh workers tries) }
@@ -149,10 +149,10 @@ impl Broker {
         loss_at(failures, self.tries, n)
     }
 
-    /// The least listed task all of whose workers have 5 or more failures; `None` exactly where there
-    /// is none.
+    /// The least listed task all of whose workers have 5 or more failures; `None` exactly where
+    /// there is none.
     pub fn no_worker(&self, ready: &[Ready]) -> Option<u32>
-        ensures { IsLeastStranded (IsStranded (takes_in self.now) (lapses_in self.now)) ready.now result }
+        ensures { IsLeastStranded (IsStrandedIn self.now) ready.now result }
     {
         least_stranded(self.workers.list.as_slice(), &self.lapses, ready)
     }
@@ -165,16 +165,17 @@ impl Broker {
         self.busy[w] < self.workers.slots(w) && self.lapses[w] < WORKER_FAILURES
     }
 
-    /// The listed task and the worker that cost least under the policy's law, among workers that take
-    /// the task, have a free slot and fewer than 5 failures; ties go by the task's number, then by the
-    /// worker's. `None` exactly where there is no such pair. Costs are asked for at those pairs alone.
+    /// The listed task and the worker that cost least under the policy's law, among workers that
+    /// take the task, have a free slot and fewer than 5 failures; ties go by the task's number,
+    /// then by the worker's. `None` exactly where there is no such pair. Costs are asked for at
+    /// those pairs alone.
     pub fn pick<F: Prices, C: CostLaw>(
         &self,
         p: &Policy<F, C>,
         ready: &[Ready],
     ) -> Option<(u32, u32)>
         requires { AreInRange ready.now }
-        ensures { IsChosen (C.cost p.now.law.value) (takes_in self.now) (usable_in self.now) ready.now result }
+        ensures { IsPicked (C.cost p.now.law.value) self.now ready.now result }
     {
         let mut best = None;
         for w in 0..self.workers.list.len() {

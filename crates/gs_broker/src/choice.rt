@@ -54,7 +54,8 @@ pub(crate) fn scan_tasks<F: Prices, C: CostLaw>(
 ) -> Option<Pair>
     requires worker { w < 64 }
     requires ready { AreInRange ready.now }
-    ensures { result ≡ scan_tasks (C.cost p.now.law.value) (takes_at workers.now w) w ready.now best }
+    ensures { result
+        ≡ scan_tasks (C.cost p.now.law.value) (takes_at workers.now w) w ready.now best }
 {
     let mut best = best;
     for r in ready {

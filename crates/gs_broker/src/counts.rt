@@ -1,8 +1,7 @@
 // Counters of workers.
 ghost use Rattle.std.specs.Prelude.{◌≡◌, ◌<◌, ◌≤◌, ◌+◌, ◌-◌, ℕ, length, slice_index, slice_set, min, replicate, IfOk, None, true, false};
-ghost use Rattle.gs_broker.specs.Counts.{total, is_on, one, most, has_live};
-ghost use Rattle.gs_broker.specs.Stranded.{scan_stranded};
-ghost use Rattle.gs_broker.specs.Workers.{takes_at};
+ghost use Rattle.gs_broker.specs.Counts.{total, is_on, one, most};
+ghost use Rattle.gs_broker.specs.Stranded.{live_in, scan_stranded};
 
 use crate::choice::Ready;
 use crate::outcome::lesser;
@@ -14,7 +13,8 @@ use std::alloc::{AllocError, Global};
 pub(crate) fn take_slot(busy: &mut Vec<usize>, w: usize, limit: usize)
     requires within { w < length busy.old.items }
     requires room { slice_index busy.old.items w < limit }
-    ensures jobs { (u : ℕ) → slice_index busy.new.items u ≡ slice_index busy.old.items u + is_on (Some w) u }
+    ensures jobs { (u : ℕ) →
+        slice_index busy.new.items u ≡ slice_index busy.old.items u + is_on (Some w) u }
     ensures total { total busy.new.items ≡ total busy.old.items + 1 }
     ensures same { length busy.new.items ≡ length busy.old.items }
 {
@@ -23,7 +23,8 @@ pub(crate) fn take_slot(busy: &mut Vec<usize>, w: usize, limit: usize)
 
 // One job less.
 pub(crate) fn leave_slot(busy: &mut Vec<usize>, worker: Option<u32>)
-    ensures jobs { (u : ℕ) → slice_index busy.new.items u ≡ slice_index busy.old.items u - is_on worker u }
+    ensures jobs { (u : ℕ) →
+        slice_index busy.new.items u ≡ slice_index busy.old.items u - is_on worker u }
     ensures total { total busy.old.items ≤ total busy.new.items + one worker }
     ensures same { length busy.new.items ≡ length busy.old.items }
 {
@@ -64,7 +65,7 @@ pub(crate) fn no_failures(alloc: Global, count: usize) -> Result<Vec<u32>, Alloc
 // Whether a worker that takes the operation has not failed too often.
 pub(crate) fn has_live(workers: &[Worker], lapses: &[u32], op: usize) -> bool
     requires { length lapses.now ≡ length workers.now }
-    ensures { result ≡ has_live (takes_at workers.now) (slice_index lapses.now) op (length workers.now) }
+    ensures { result ≡ live_in workers.now lapses.now op }
 {
     for w in 0..workers.len() {
         if takes_at(workers, w, op) && lapses[w] < WORKER_FAILURES {
@@ -77,7 +78,7 @@ pub(crate) fn has_live(workers: &[Worker], lapses: &[u32], op: usize) -> bool
 // The least listed task whose operation no worker can take any more.
 pub(crate) fn least_stranded(workers: &[Worker], lapses: &[u32], ready: &[Ready]) -> Option<u32>
     requires { length lapses.now ≡ length workers.now }
-    ensures { result ≡ scan_stranded (λ op. has_live (takes_at workers.now) (slice_index lapses.now) op (length workers.now)) ready.now None }
+    ensures { result ≡ scan_stranded (live_in workers.now lapses.now) ready.now None }
 {
     let mut least = None;
     for r in ready {

@@ -39,7 +39,8 @@ pub(crate) fn failures_at(tasks: &HashMap<u32, Line>, n: u32) -> u32
 
 pub(crate) fn put(tasks: &mut HashMap<u32, Line>, n: u32, line: Line)
     requires { (0 < spare tasks.old) ⊎ IsSome (get nat_eq tasks.old n) }
-    ensures lines { (m : ℕ) → get nat_eq tasks.new m ≡ (if n == m then Some line else get nat_eq tasks.old m) }
+    ensures lines { (m : ℕ) →
+        get nat_eq tasks.new m ≡ (if n == m then Some line else get nat_eq tasks.old m) }
     ensures spare { spare tasks.old ≤ spare tasks.new + 1 }
     ensures kept { IsSome (get nat_eq tasks.old n) → spare tasks.old ≤ spare tasks.new }
 {

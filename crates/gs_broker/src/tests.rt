@@ -7,7 +7,7 @@ ghost use Rattle.gs_broker.specs.Listed.{slots_of_list};
 use crate::workers::{Worker, Workers};
 use crate::{Broker, Loss, Ready};
 use gs_policy::{CostLaw, Policy, Prices};
-use gs_types::NoMemory;
+use gs_types::{Name, NoMemory};
 use std::alloc::Global;
 use std::test::Fail;
 
@@ -24,24 +24,24 @@ impl CostLaw for LaterFirst {
 }
 
 // A worker of one slot that takes one operation.
-fn worker(alloc: Global, name: u8) -> Result<Worker, NoMemory>
+fn worker(alloc: Global, name: Name) -> Result<Worker, NoMemory>
     ensures { IfOk result (λ w. w.slots ≡ 1) }
 {
     Ok(Worker {
-        name: vec![in alloc; name]?,
+        name,
         slots: 1,
         program: vec![in alloc; b'p']?,
         takes: vec![in alloc; true]?,
     })
 }
 
-fn two_workers(alloc: Global) -> Result<Workers, NoMemory>
+fn two_workers(alloc: Global, a: Name, b: Name) -> Result<Workers, NoMemory>
     ensures { IfOk result (λ ws. (slots_of_list ws 0 ≡ 1) × (slots_of_list ws 1 ≡ 1)) }
 {
     let mut workers = Workers::empty(alloc);
-    let first = worker(alloc, b'a')?;
+    let first = worker(alloc, a)?;
     workers.push(first)?;
-    let second = worker(alloc, b'b')?;
+    let second = worker(alloc, b)?;
     workers.push(second)?;
     Ok(workers)
 }
@@ -84,7 +84,7 @@ fn later_first(broker: &Broker, ready: &[Ready]) -> Option<(u32, u32)>
 
 #[test]
 fn the_cheaper_worker_takes_the_first_task(rt: HostRuntime) -> Result<(), Fail> {
-    let workers = two_workers(rt.alloc())?;
+    let workers = two_workers(rt.alloc(), Name::read(b"a")?, Name::read(b"b")?)?;
     let mut broker = Broker::new(rt.alloc(), workers, 3)?;
     broker.reserve(2)?;
     let first = later_first(&broker, &[ready(1), ready(2)]);

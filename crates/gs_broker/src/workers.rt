@@ -5,13 +5,13 @@ ghost use Rattle.std.specs.Prelude.{◌≡◌, ◌<◌, ◌≤◌, ◌+◌, ℕ,
 ghost use Rattle.gs_types.specs.declared.limits.TheConstants.{WORKER_LIMIT, SLOT_LIMIT};
 ghost use Rattle.gs_broker.specs.Workers.{slots_at, takes_at, program_of};
 
-use gs_types::NoMemory;
+use gs_types::{Name, NoMemory};
 use std::alloc::Global;
 
 /// A worker: its name, how many jobs it takes at once, its program, and which operations it takes.
 #[derive(Drop)]
 pub(crate) struct Worker {
-    pub name: Vec<u8>,
+    pub name: Name,
     pub slots: usize,
     pub program: Vec<u8>,
     pub takes: Vec<bool>,
