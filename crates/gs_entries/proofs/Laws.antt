@@ -7,7 +7,7 @@ use Rattle.gs_types.specs.declared.note.Version.TheVariants as versions
 use Rattle.gs_types.specs.declared.action.Action.TheVariants as acts
 use Rattle.gs_entries.specs.declared.entry.Entry.TheVariants as made
 use Rattle.gs_entries.specs.Notes.{name, source, task, place, operation, file_len, note_tag, file_part, int_part, str_part, note_as, note, put_out, out, outs, put_var, var, version_tag, out_of, task_part, main_part, version_as, version, put_final, final}
-use Rattle.gs_entries.specs.Actions.{action_tag, put_call, call_part, result_part, read_part, write_part, barrier_part, end_part, files, action_as, action}
+use Rattle.gs_entries.specs.Actions.{action_tag, put_call, call_part, put_use, use_part, result_part, read_part, write_part, barrier_part, end_part, files, action_as, action}
 use Rattle.gs_entries.specs.Gate.{put_gate, gate_fields, gate}
 use Rattle.gs_entries.specs.Entries.{put_texts, texts, entry_tag, header_part, put_done, done_part, gate_part, closed_part, entry_as, entry}
 
@@ -72,13 +72,14 @@ files_law = counted_law _ four (only_law _ byte byte_law) four_law
 
 action_laws : (t : ℕ) → Law (action_as t)
 action_laws zero = never_law
-action_laws (suc zero) = via_law put_call call_part _ (λ a. refl) (elim [ acts.Call n o reads writes ↦ λ a e. made_of put_call (acts.Call n o reads writes) (n, (o, (reads, writes))) a refl e | acts.Result n ↦ λ a e. absurd cc | acts.Read x ↦ λ a e. absurd cc | acts.Write x ↦ λ a e. absurd cc | acts.Barrier ↦ λ a e. absurd cc | acts.End ↦ λ a e. absurd cc ]) (pair_law _ _ task_law (pair_law _ _ operation_law (pair_law _ _ files_law files_law)))
-action_laws (suc (suc zero)) = via_law acts.Result result_part _ (λ a. refl) (elim [ acts.Call n o reads writes ↦ λ a e. absurd cc | acts.Result n ↦ λ a e. cc | acts.Read x ↦ λ a e. absurd cc | acts.Write x ↦ λ a e. absurd cc | acts.Barrier ↦ λ a e. absurd cc | acts.End ↦ λ a e. absurd cc ]) task_law
-action_laws (suc (suc (suc zero))) = via_law acts.Read read_part _ (λ a. refl) (elim [ acts.Call n o reads writes ↦ λ a e. absurd cc | acts.Result n ↦ λ a e. absurd cc | acts.Read x ↦ λ a e. cc | acts.Write x ↦ λ a e. absurd cc | acts.Barrier ↦ λ a e. absurd cc | acts.End ↦ λ a e. absurd cc ]) four_law
-action_laws (suc (suc (suc (suc zero)))) = via_law acts.Write write_part _ (λ a. refl) (elim [ acts.Call n o reads writes ↦ λ a e. absurd cc | acts.Result n ↦ λ a e. absurd cc | acts.Read x ↦ λ a e. absurd cc | acts.Write x ↦ λ a e. cc | acts.Barrier ↦ λ a e. absurd cc | acts.End ↦ λ a e. absurd cc ]) four_law
-action_laws (suc (suc (suc (suc (suc zero))))) = via_law (λ _. acts.Barrier) barrier_part _ (λ a. refl) (elim [ acts.Call n o reads writes ↦ λ a e. absurd cc | acts.Result n ↦ λ a e. absurd cc | acts.Read x ↦ λ a e. absurd cc | acts.Write x ↦ λ a e. absurd cc | acts.Barrier ↦ λ a e. refl | acts.End ↦ λ a e. absurd cc ]) empty_law
-action_laws (suc (suc (suc (suc (suc (suc zero)))))) = via_law (λ _. acts.End) end_part _ (λ a. refl) (elim [ acts.Call n o reads writes ↦ λ a e. absurd cc | acts.Result n ↦ λ a e. absurd cc | acts.Read x ↦ λ a e. absurd cc | acts.Write x ↦ λ a e. absurd cc | acts.Barrier ↦ λ a e. absurd cc | acts.End ↦ λ a e. refl ]) empty_law
-action_laws (suc (suc (suc (suc (suc (suc (suc t))))))) = never_law
+action_laws (suc zero) = via_law put_call call_part _ (λ a. refl) (elim [ acts.Call n o reads writes ↦ λ a e. made_of put_call (acts.Call n o reads writes) (n, (o, (reads, writes))) a refl e | acts.Use n k ↦ λ a e. absurd cc | acts.Result n ↦ λ a e. absurd cc | acts.Read x ↦ λ a e. absurd cc | acts.Write x ↦ λ a e. absurd cc | acts.Barrier ↦ λ a e. absurd cc | acts.End ↦ λ a e. absurd cc ]) (pair_law _ _ task_law (pair_law _ _ operation_law (pair_law _ _ files_law files_law)))
+action_laws (suc (suc zero)) = via_law acts.Result result_part _ (λ a. refl) (elim [ acts.Call n o reads writes ↦ λ a e. absurd cc | acts.Use n k ↦ λ a e. absurd cc | acts.Result n ↦ λ a e. cc | acts.Read x ↦ λ a e. absurd cc | acts.Write x ↦ λ a e. absurd cc | acts.Barrier ↦ λ a e. absurd cc | acts.End ↦ λ a e. absurd cc ]) task_law
+action_laws (suc (suc (suc zero))) = via_law acts.Read read_part _ (λ a. refl) (elim [ acts.Call n o reads writes ↦ λ a e. absurd cc | acts.Use n k ↦ λ a e. absurd cc | acts.Result n ↦ λ a e. absurd cc | acts.Read x ↦ λ a e. cc | acts.Write x ↦ λ a e. absurd cc | acts.Barrier ↦ λ a e. absurd cc | acts.End ↦ λ a e. absurd cc ]) four_law
+action_laws (suc (suc (suc (suc zero)))) = via_law acts.Write write_part _ (λ a. refl) (elim [ acts.Call n o reads writes ↦ λ a e. absurd cc | acts.Use n k ↦ λ a e. absurd cc | acts.Result n ↦ λ a e. absurd cc | acts.Read x ↦ λ a e. absurd cc | acts.Write x ↦ λ a e. cc | acts.Barrier ↦ λ a e. absurd cc | acts.End ↦ λ a e. absurd cc ]) four_law
+action_laws (suc (suc (suc (suc (suc zero))))) = via_law (λ _. acts.Barrier) barrier_part _ (λ a. refl) (elim [ acts.Call n o reads writes ↦ λ a e. absurd cc | acts.Use n k ↦ λ a e. absurd cc | acts.Result n ↦ λ a e. absurd cc | acts.Read x ↦ λ a e. absurd cc | acts.Write x ↦ λ a e. absurd cc | acts.Barrier ↦ λ a e. refl | acts.End ↦ λ a e. absurd cc ]) empty_law
+action_laws (suc (suc (suc (suc (suc (suc zero)))))) = via_law (λ _. acts.End) end_part _ (λ a. refl) (elim [ acts.Call n o reads writes ↦ λ a e. absurd cc | acts.Use n k ↦ λ a e. absurd cc | acts.Result n ↦ λ a e. absurd cc | acts.Read x ↦ λ a e. absurd cc | acts.Write x ↦ λ a e. absurd cc | acts.Barrier ↦ λ a e. absurd cc | acts.End ↦ λ a e. refl ]) empty_law
+action_laws (suc (suc (suc (suc (suc (suc (suc zero))))))) = via_law put_use use_part _ (λ a. refl) (elim [ acts.Call n o reads writes ↦ λ a e. absurd cc | acts.Use n k ↦ λ a e. made_of put_use (acts.Use n k) (n, k) a refl e | acts.Result n ↦ λ a e. absurd cc | acts.Read x ↦ λ a e. absurd cc | acts.Write x ↦ λ a e. absurd cc | acts.Barrier ↦ λ a e. absurd cc | acts.End ↦ λ a e. absurd cc ]) (pair_law _ _ task_law place_law)
+action_laws (suc (suc (suc (suc (suc (suc (suc (suc t)))))))) = never_law
 
 action_law : Law action
 action_law = tagged_law action_tag action_as action_laws

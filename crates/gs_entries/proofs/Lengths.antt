@@ -88,7 +88,8 @@ action_ups (suc (suc (suc zero))) = wider _ 4 135 (lit≤ tt) (via_up _ _ _ 4 fo
 action_ups (suc (suc (suc (suc zero)))) = wider _ 4 135 (lit≤ tt) (via_up _ _ _ 4 four_up)
 action_ups (suc (suc (suc (suc (suc zero))))) = wider _ 0 135 (lit≤ tt) (via_up (λ _. acts.Barrier) barrier_part _ 0 empty_up)
 action_ups (suc (suc (suc (suc (suc (suc zero)))))) = wider _ 0 135 (lit≤ tt) (via_up (λ _. acts.End) end_part _ 0 empty_up)
-action_ups (suc (suc (suc (suc (suc (suc (suc t))))))) = never_up 135
+action_ups (suc (suc (suc (suc (suc (suc (suc zero))))))) = wider _ 5 135 (lit≤ tt) (via_up _ _ _ 5 (pair_up task place 4 1 task_up place_up))
+action_ups (suc (suc (suc (suc (suc (suc (suc (suc t)))))))) = never_up 135
 
 action_up : IsUpTo action 136
 action_up = tagged_up action_tag action_as 135 action_ups

@@ -10,7 +10,12 @@ use Rattle.gs_entries.specs.declared.entry.Entry.{Entry}
 use Rattle.gs_entries.specs.declared.entry.Entry.TheVariants as made
 
 abbrev pub put_texts : Unit {0} × (List ℕ × (List ℕ × (List ℕ × List ℕ))) → Texts
-put_texts p = record { idl_name = p.1.0; idl = p.1.1.0; program_name = p.1.1.1.0; program = p.1.1.1.1 }
+put_texts p = record {
+  idl_name = p.1.0;
+  idl = p.1.1.0;
+  program_name = p.1.1.1.0;
+  program = p.1.1.1.1;
+}
 
 abbrev pub text_parts : Texts → Option (Unit {0} × (List ℕ × (List ℕ × (List ℕ × List ℕ))))
 text_parts t = Some (tt, (t.idl_name, (t.idl, (t.program_name, t.program))))

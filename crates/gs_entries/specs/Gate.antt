@@ -16,6 +16,7 @@ abbrev pub ends_once : Bool → List Action → Bool
 ends_once ended [] = ended
 ends_once true (a ∷ more) = false
 ends_once false (acts.Call n op reads writes ∷ more) = ends_once false more
+ends_once false (acts.Use n k ∷ more) = ends_once false more
 ends_once false (acts.Result n ∷ more) = ends_once false more
 ends_once false (acts.Read x ∷ more) = ends_once false more
 ends_once false (acts.Write x ∷ more) = ends_once false more
@@ -26,6 +27,7 @@ ends_once false (acts.End ∷ more) = ends_once true more
 abbrev pub calls_in : List Action → ℕ
 calls_in [] = 0
 calls_in (acts.Call n op reads writes ∷ more) = 1 + calls_in more
+calls_in (acts.Use n k ∷ more) = calls_in more
 calls_in (acts.Result n ∷ more) = calls_in more
 calls_in (acts.Read x ∷ more) = calls_in more
 calls_in (acts.Write x ∷ more) = calls_in more
@@ -35,6 +37,7 @@ calls_in (acts.End ∷ more) = calls_in more
 -- the names of an action by their numbers: what a call reads stands before what it writes
 abbrev pub named_by : Action → List ℕ
 named_by (acts.Call n op reads writes) = reads ++ writes
+named_by (acts.Use n k) = []
 named_by (acts.Result n) = []
 named_by (acts.Read x) = x ∷ []
 named_by (acts.Write x) = x ∷ []
@@ -44,6 +47,7 @@ named_by acts.End = []
 -- the names that an action writes, by their numbers
 abbrev pub written_by : Action → List ℕ
 written_by (acts.Call n op reads writes) = writes
+written_by (acts.Use n k) = []
 written_by (acts.Result n) = []
 written_by (acts.Read x) = []
 written_by (acts.Write x) = x ∷ []
@@ -61,7 +65,8 @@ written_in (a ∷ more) = written_by a ++ written_in more
 -- the number of names behind these, where each is one of those before or the next one
 abbrev pub names_behind : ℕ → List ℕ → Option ℕ
 names_behind next [] = Some next
-names_behind next (i ∷ is) = if nat_lt i next then names_behind next is else (if i == next then names_behind (next + 1) is else None)
+names_behind next (i ∷ is) = if nat_lt i next then names_behind next is
+    else (if i == next then names_behind (next + 1) is else None)
 
 abbrev pub is_number : Option ℕ → ℕ → Bool
 is_number None count = false
@@ -74,23 +79,28 @@ numbers named count = is_number (names_behind 0 named) count
 -- each differs from all those before it
 abbrev pub distinct_after : List (List ℕ) → List (List ℕ) → Bool
 distinct_after before [] = true
-distinct_after before (x ∷ xs) = not (list_any (bytes_eq x) before) && distinct_after (before ++ x ∷ []) xs
+distinct_after before (x ∷ xs) = not (list_any (bytes_eq x) before)
+    && distinct_after (before ++ x ∷ []) xs
 
 -- where a name is written first: the number of writings before
 abbrev pub first_writing : List ℕ → ℕ → ℕ
 first_writing written x = position_or_len (λ y. x == y) written
 
--- each is of a name that is written, and in order of first writing: none is written first before this place
+-- each is of a name that is written, and in order of first writing: none is written first before
+-- this place
 abbrev pub finals_rise : ℕ → List ℕ → ℕ → List FinalNote → Bool
 finals_rise count written low [] = true
 finals_rise count written low (f ∷ fs) =
-    nat_lt f.name count && (nat_le low (first_writing written f.name) && (nat_lt (first_writing written f.name) (length written)
+    nat_lt f.name count && (nat_le low (first_writing written f.name)
+    && (nat_lt (first_writing written f.name) (length written)
     && finals_rise count written (first_writing written f.name + 1) fs))
 
 abbrev pub gate_ok : GateNote → Bool
 gate_ok g =
-    ends_once false g.actions && (nat_le (calls_in g.actions) TASK_LIMIT && (numbers (named_in g.actions) (length g.names)
-    && (distinct_after [] g.names && finals_rise (length g.names) (written_in g.actions) 0 g.finals)))
+    ends_once false g.actions && (nat_le (calls_in g.actions) TASK_LIMIT
+    && (numbers (named_in g.actions) (length g.names)
+    && (distinct_after [] g.names && finals_rise (length g.names) (written_in g.actions) 0
+    g.finals)))
 
 abbrev pub names : Format (List (List ℕ))
 names = counted (up_to NAME_LIMIT four) name
@@ -108,10 +118,18 @@ vars = counted (up_to VARIABLE_LIMIT four) var
 abbrev pub actions : Format (List Action)
 actions = counted (up_to (ACTION_LIMIT + 1) four) action
 
-abbrev pub put_gate : List (List ℕ) × (List FinalNote × (List ℕ × (List VarNote × List Action))) → GateNote
-put_gate p = record { names = p.0; finals = p.1.0; text = p.1.1.0; vars = p.1.1.1.0; actions = p.1.1.1.1 }
+abbrev pub put_gate : List (List ℕ) × (List FinalNote × (List ℕ × (List VarNote × List Action)))
+    → GateNote
+put_gate p = record {
+  names = p.0;
+  finals = p.1.0;
+  text = p.1.1.0;
+  vars = p.1.1.1.0;
+  actions = p.1.1.1.1;
+}
 
-abbrev pub gate_parts : GateNote → Option (List (List ℕ) × (List FinalNote × (List ℕ × (List VarNote × List Action))))
+abbrev pub gate_parts : GateNote
+    → Option (List (List ℕ) × (List FinalNote × (List ℕ × (List VarNote × List Action))))
 gate_parts g = Some (g.names, (g.finals, (g.text, (g.vars, g.actions))))
 
 abbrev pub gate_fields : Format GateNote
@@ -135,4 +153,5 @@ pub record FirstFrom (written : List ℕ) (at count : ℕ) (places : List ℕ) :
 -- whether the finals rise, told from where each name is written first
 abbrev pub FinalsRise : List ℕ → ℕ → List FinalNote → Bool → Type 0
 FinalsRise places writings fs answer =
-    (written : List ℕ) → length written ≡ writings → FirstWritings written (length places) places → answer ≡ finals_rise (length places) written 0 fs
+    (written : List ℕ) → length written ≡ writings → FirstWritings written (length places) places
+    → answer ≡ finals_rise (length places) written 0 fs

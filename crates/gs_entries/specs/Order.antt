@@ -1,5 +1,5 @@
--- The order of entries: a header first, then what tasks gave, each task once, then at most one gate, then at most one
--- closed entry.
+-- The order of entries: a header first, then what tasks gave, each task once, then at most one
+-- gate, then at most one closed entry.
 use Rattle.std.specs.Prelude.{◌≡◌, ℕ, Bool, true, false, not, ◌==◌, List, [], ◌∷◌, ◌++◌, length, Option, Some, None, Result, Ok, Err, if◌then◌else◌}
 use Rattle.std.specs.List.{list_any}
 use Rattle.gs_fields.specs.Fields.{◌>>=◌}
@@ -69,19 +69,26 @@ follows es e = may_follow (stage_of es) es e
 unfoldable pub accepted : List Entry → List ℕ → Option Entry
 accepted es payload = whole entry payload >>= λ e. if follows es e then Some e else None
 
--- the entries with those that the payloads are, or the number of those before the first payload that is none or stands out
--- of order
+-- the entries with those that the payloads are, or the number of those before the first payload
+-- that is none or stands out of order
 abbrev pub records : List Entry → List (List ℕ) → Result (List Entry) ℕ
 records es [] = Ok es
-records es (p ∷ ps) = elim (accepted es p) [ Some e ↦ records (es ++ e ∷ []) ps | None ↦ Err (length es) ]
+records es (p ∷ ps) = elim (accepted es p) [
+  | Some e ↦ records (es ++ e ∷ []) ps
+  | None ↦ Err
+      (length es)
+]
 
--- it took the entry that the payload is, or said that it is none, or that memory ran out, and then nothing changed
+-- it took the entry that the payload is, or said that it is none, or that memory ran out, and then
+-- nothing changed
 abbrev pub Takes : List Entry → List Entry → List ℕ → Result (Unit {0}) Failure → Type 0
-Takes old new payload (Ok done) = (e : Entry) × (accepted old payload ≡ Some e) × (new ≡ old ++ e ∷ [])
+Takes old new payload (Ok done) = (e : Entry) × (accepted old payload ≡ Some e)
+    × (new ≡ old ++ e ∷ [])
 Takes old new payload (Err NotEntry) = (accepted old payload ≡ None) × (new ≡ old)
 Takes old new payload (Err NoMemory) = new ≡ old
 
--- the payload at place i is the first that is no entry or stands out of order: those before it are read as these entries
+-- the payload at place i is the first that is no entry or stands out of order: those before it are
+-- read as these entries
 pub record IsFirst (payloads : List (List ℕ)) (i : ℕ) : Type 0 where
   pub before : List (List ℕ)
   pub bad : List ℕ

@@ -4,7 +4,7 @@ ghost use Rattle.gs_entries.specs.Gives.{Gives};
 ghost use Rattle.gs_entries.specs.Actions.{action, action_as, files};
 
 use crate::failure::Failure;
-use crate::notes::{read_operation, read_task};
+use crate::notes::{read_operation, read_place, read_task};
 use crate::spelled::{Spelled, put_all, read_times};
 use gs_fields::{Fields, put_u8, put_u32};
 use gs_types::{Action, NoMemory, PARAMETER_LIMIT, Sequence};
@@ -63,6 +63,11 @@ impl Spelled for Action {
             }
             5 => Ok(Action::Barrier),
             6 => Ok(Action::End),
+            7 => {
+                let n = read_task(f)?;
+                let place = read_place(f)?;
+                Ok(Action::Use { n, place })
+            }
             _ => Err(Failure::NotEntry),
         }
     }
@@ -80,6 +85,11 @@ impl Spelled for Action {
                 put_u8(to, *op)?;
                 put_files(reads, to)?;
                 put_files(writes, to)
+            }
+            Action::Use { n, place } => {
+                put_u8(to, 7)?;
+                put_u32(to, *n)?;
+                put_u8(to, *place)
             }
             Action::Result { n } => {
                 put_u8(to, 2)?;

@@ -13,8 +13,8 @@ use indexmap::IndexSet;
 use std::alloc::Global;
 use std::marker::Model;
 
-/// Entries in the order in which they stand, with their stage and the tasks that are done at hand. It sees
-/// to it that no task is done twice.
+/// Entries in the order in which they stand, with their stage and the tasks that are done at hand.
+/// It sees to it that no task is done twice.
 #[derive(Drop)]
 pub struct Book {
     alloc: Global,
@@ -32,7 +32,8 @@ impl Model for Book {
 
     ghost view = { λ b. b.entries.items };
 
-    ghost invariant = { λ b. (b.stage ≡ stage_of b.entries.items) × (b.dones.keys ≡ tasks_done b.entries.items) };
+    ghost invariant = { λ b. (b.stage ≡ stage_of b.entries.items)
+        × (b.dones.keys ≡ tasks_done b.entries.items) };
 }
 
 fn stage_by(e: &Entry) -> Stage
@@ -149,8 +150,8 @@ impl Book {
         }
     }
 
-    /// Takes the entry that a payload is. `NotEntry` exactly where it is none, or may not stand behind
-    /// these. At an error nothing changes.
+    /// Takes the entry that a payload is. `NotEntry` exactly where it is none, or may not stand
+    /// behind these. At an error nothing changes.
     #[tactic(auto, unfolding(crate::specs::Order::accepted))]
     pub fn take(&mut self, payload: &[u8]) -> Result<(), Failure>
         ensures { Takes self.old self.new payload.now result }

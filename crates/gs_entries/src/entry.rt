@@ -10,8 +10,8 @@ pub struct Texts {
     pub program: Blob,
 }
 
-/// What a main program did and left. The names are those of its actions in the order in which they first
-/// stand there; actions and finals tell a name by its number in this list, from 0.
+/// What a main program did and left. The names are those of its actions in the order in which they
+/// first stand there; actions and finals tell a name by its number in this list, from 0.
 #[derive(Debug, Drop)]
 pub struct GateNote {
     pub names: Sequence<Name>,
@@ -21,8 +21,8 @@ pub struct GateNote {
     pub actions: Sequence<Action>,
 }
 
-/// An entry of the record: which texts a run is of, what task `n` gave, what the main program did and left,
-/// and that its results are in the user's files.
+/// An entry of the record: which texts a run is of, what task `n` gave, what the main program did
+/// and left, and that its results are in the user's files.
 #[derive(Debug, Drop)]
 pub enum Entry {
     Header {
@@ -39,8 +39,8 @@ pub enum Entry {
     Closed,
 }
 
-/// How far a record is: nothing is recorded, a run goes on, the main program has ended, its results are in
-/// the user's files.
+/// How far a record is: nothing is recorded, a run goes on, the main program has ended, its results
+/// are in the user's files.
 #[derive(Clone, Copy, Debug, PartialEq, Eq)]
 pub enum Stage {
     Fresh,

@@ -30,6 +30,7 @@ fn ends_once(actions: &[Action]) -> bool
         match action {
             Action::End => ended = true,
             Action::Call { .. }
+            | Action::Use { .. }
             | Action::Result { .. }
             | Action::Read { .. }
             | Action::Write { .. }
@@ -66,7 +67,7 @@ fn push_named(action: &Action, named: &mut Vec<u32>) -> Result<(), NoMemory>
             named.push(*name)?;
             Ok(())
         }
-        Action::Result { .. } | Action::Barrier | Action::End => Ok(()),
+        Action::Use { .. } | Action::Result { .. } | Action::Barrier | Action::End => Ok(()),
     }
 }
 
@@ -94,7 +95,11 @@ fn push_written(action: &Action, written: &mut Vec<u32>) -> Result<(), NoMemory>
             written.push(*name)?;
             Ok(())
         }
-        Action::Result { .. } | Action::Read { .. } | Action::Barrier | Action::End => Ok(()),
+        Action::Use { .. }
+        | Action::Result { .. }
+        | Action::Read { .. }
+        | Action::Barrier
+        | Action::End => Ok(()),
     }
 }
 
@@ -140,8 +145,8 @@ fn are_distinct(alloc: Global, names: &[Name]) -> Result<bool, NoMemory>
     Ok(true)
 }
 
-/// Where each of `count` names is written first: the number of writings before, which is that of all
-/// writings where it isn't written.
+/// Where each of `count` names is written first: the number of writings before, which is that of
+/// all writings where it isn't written.
 fn first_writings(alloc: Global, written: &[u32], count: usize) -> Result<Vec<usize>, NoMemory>
     ensures { IfOk result (λ v. FirstWritings written.now count v.items) }
 {

@@ -81,7 +81,7 @@ pub fn read_task(f: &mut Fields) -> Result<u32, Failure>
 }
 
 /// A place of an operation.
-fn read_place(f: &mut Fields) -> Result<u8, Failure>
+pub fn read_place(f: &mut Fields) -> Result<u8, Failure>
     ensures { Gives f.new result (place.read f.old.rest) }
 {
     let k = f.next_u8()?;

@@ -16,7 +16,8 @@ pub trait Spelled: Sized + Drop {
     fn read(alloc: Global, f: &mut Fields) -> Result<Self, Failure>
         ensures { Gives f.new result (format.read f.old.rest) };
 
-    /// Appends the spelling of a value that has one. After want of memory a part of it may stand there.
+    /// Appends the spelling of a value that has one. After want of memory a part of it may stand
+    /// there.
     fn put(&self, to: &mut Vec<u8>) -> Result<(), NoMemory>
         requires { format.fits self.now ≡ true }
         ensures { OnOk result (to.new.items ≡ to.old.items ++ format.spell self.now) };

@@ -15,8 +15,9 @@ const EMPTY_GATE: &[u8] = b"\x03\0\0\0\0\0\0\0\0\0\0\0\0\0\0\0\0\x01\0\0\0\x06";
 
 const CLOSED: &[u8] = b"\x04";
 
-/// Two names, each with a final: an output of task 7 and what main wrote; a text, a number and a string; a
-/// call that reads and writes, a wait, an opening, a closing, a barrier and the end.
+/// Two names, each with a final: an output of task 7 and what main wrote; a text, a number and a
+/// string; a call that reads and writes, a wait, an opening, a closing, a barrier, a use and the
+/// end.
 fn full_gate(alloc: Global) -> Result<Vec<u8>, NoMemory> {
     let mut bytes = Vec::from_slice(alloc, b"\x03\x02\0\0\0\x01\0\0\0a\x01\0\0\0b\x02\0\0\0")?;
     bytes.extend_from_slice(b"\x01\0\0\0\x01\x07\0\0\0\x02\x09\0\0\0\0\0\0\0")?;
@@ -24,8 +25,8 @@ fn full_gate(alloc: Global) -> Result<Vec<u8>, NoMemory> {
     bytes.extend_from_slice(b"\x02\0\0\0hi")?;
     bytes.extend_from_slice(b"\x02\0\0\0\x01\0\0\0n\x02\xff\xff\xff\xff\xff\xff\xff\xff")?;
     bytes.extend_from_slice(b"\x01\0\0\0s\x03\x01\0\0\0z")?;
-    bytes.extend_from_slice(b"\x06\0\0\0\x01\x07\0\0\0\x3f\x01\0\0\0\0\x01\x01\0\0\0")?;
-    bytes.extend_from_slice(b"\x02\x07\0\0\0\x03\0\0\0\0\x04\0\0\0\0\x05\x06")?;
+    bytes.extend_from_slice(b"\x07\0\0\0\x01\x07\0\0\0\x3f\x01\0\0\0\0\x01\x01\0\0\0")?;
+    bytes.extend_from_slice(b"\x02\x07\0\0\0\x03\0\0\0\0\x04\0\0\0\0\x05\x07\x07\0\0\0\x03\x06")?;
     Ok(bytes)
 }
 

@@ -24,13 +24,15 @@ abbrev pub ◌>>=◌ : {A B : Type 0} → Option A → (A → Option B) → Opti
 (Some x) >>= f = f x
 None >>= f = None
 
--- a field is read as its value and the bytes after it: none where the bytes end before the field does
+-- a field is read as its value and the bytes after it: none where the bytes end before the field
+-- does
 abbrev pub byte_at : List ℕ → Option (ℕ × List ℕ)
 byte_at [] = None
 byte_at (b ∷ rest) = Some (b, rest)
 
 abbrev pub front_at : ℕ → List ℕ → Option (List ℕ × List ℕ)
-front_at len bytes = if nat_lt (length bytes) len then None else Some (take len bytes, drop len bytes)
+front_at len bytes = if nat_lt (length bytes) len then None
+    else Some (take len bytes, drop len bytes)
 
 abbrev pub number_at : Width → List ℕ → Option (ℕ × List ℕ)
 number_at w bytes = front_at (byte_len w) bytes >>= λ f. Some (from_le_bytes w f.0, f.1)

@@ -38,7 +38,12 @@ empty = record { fits = λ _. true; spell = λ _. []; read = λ b. Some (tt, b) 
 
 -- this byte
 abbrev pub exactly : ℕ → Format (Unit {0})
-exactly k = record { fits = λ _. true; spell = λ _. k ∷ []; read = λ b. byte_at b >>= λ t. if t.0 == k then Some (tt, t.1) else None }
+exactly k = record {
+  fits = λ _. true;
+  spell = λ _. k ∷ [];
+  read = λ b. byte_at b
+      >>= λ t. if t.0 == k then Some (tt, t.1) else None;
+}
 
 -- nothing is spelled
 abbrev pub never : {A : Type 0} → Format A
@@ -73,7 +78,8 @@ abbrev pub tagged : {X : Type 0} → (X → ℕ) → (ℕ → Format X) → Form
 tagged tag_of at = record {
   fits = λ x. nat_lt (tag_of x) 256 && (at (tag_of x)).fits x;
   spell = λ x. tag_of x ∷ (at (tag_of x)).spell x;
-  read = λ b. byte_at b >>= λ t. (at t.0).read t.1 >>= λ x. if tag_of x.0 == t.0 then Some x else None;
+  read = λ b. byte_at b >>= λ t. (at t.0).read t.1 >>= λ x. if tag_of x.0 == t.0 then Some x
+      else None;
 }
 
 -- that many, one after the other

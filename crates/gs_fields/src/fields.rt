@@ -13,8 +13,9 @@ pub struct Short {
     pub at: usize,
 }
 
-/// A reader of fields, from left to right. Each call answers `Short` exactly where the rest doesn't hold
-/// its field, and reads exactly what the call of the same name in `put_` appends, whatever follows.
+/// A reader of fields, from left to right. Each call answers `Short` exactly where the rest doesn't
+/// hold its field, and reads exactly what the call of the same name in `put_` appends, whatever
+/// follows.
 #[derive(Drop)]
 pub struct Fields<'a> {
     at: usize,

@@ -1,5 +1,5 @@
-//! Fields of bytes: numbers and byte strings, one after the other, as the store's entries have them; and
-//! formats, which are fields put together.
+//! Fields of bytes: numbers and byte strings, one after the other, as the store's entries have
+//! them; and formats, which are fields put together.
 #![tactic(auto)]
 
 mod fields;

@@ -10,6 +10,12 @@ pub enum Action {
         reads: Sequence<u32>,
         writes: Sequence<u32>,
     },
+    /// The first use of the value that task `n` leaves at a place, from 1.
+    Use {
+        n: u32,
+        place: u8,
+    },
+    /// A wait for all that task `n` leaves. It is read, and never made.
     Result {
         n: u32,
     },
