@@ -2,3 +2,4 @@ pub mod Lists
 pub mod Opened
 pub mod Adding
 pub mod Numbering
+pub mod Pushing

@@ -1,5 +1,5 @@
 -- Who waits for whom.
-use Rattle.std.specs.Prelude.{ℕ, zero, suc, ◌+◌, ◌-◌, vec_len, vec_capacity, ◌&&◌, not, nat_lt, nat_eq, Bool, true, false, List, [], ◌∷◌, Option, Some, None, slice_get, ◌++◌, ◌==◌, if◌then◌else◌}
+use Rattle.std.specs.Prelude.{ℕ, zero, suc, ◌+◌, ◌&&◌, not, nat_lt, nat_eq, Bool, true, false, List, [], ◌∷◌, Option, Some, None, slice_get, ◌++◌, ◌==◌, if◌then◌else◌}
 use Rattle.std.specs.declared.vec.Vec.{Vec}
 use Rattle.std.specs.declared.alloc.Global.{Global}
 use Rattle.gs_graph.specs.Numbers.{has, count_of}
@@ -23,14 +23,6 @@ waiting_too n producers waits m p = if n == m then has p producers else waits m 
 abbrev pub items_of : Option (Vec ℕ Global) → List ℕ
 items_of None = []
 items_of (Some v) = v.items
-
-abbrev pub space : Option (Vec ℕ Global) → ℕ
-space None = 0
-space (Some v) = vec_capacity v - vec_len v
-
--- how many tasks more may wait for p without memory
-abbrev pub room_of : List (Vec ℕ Global) → ℕ → ℕ
-room_of next p = space (slice_get next p)
 
 -- the tasks that have p as a producer, as often as they have it
 abbrev pub after : List (Vec ℕ Global) → ℕ → List ℕ

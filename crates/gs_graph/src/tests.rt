@@ -80,8 +80,26 @@ fn a_task_waits_for_a_producer_that_is_named_twice(rt: HostRuntime) -> Result<()
     Ok(())
 }
 
-// `join("A", "B", "C"); join("B", "A", "C");` and `join("A", "B", "C"); grow("A", "x");`:
-// neither call reads what the other writes.
+// `join("A", "B", "C"); grow("A", "x");`: the second call replaces what the first reads, and need
+// not wait for it.
+#[test]
+fn a_writer_waits_for_no_reader(rt: HostRuntime) -> Result<(), Fail> {
+    let mut graph = Graph::new(rt.alloc());
+    graph.add(1, &[])?;
+    graph.add(2, &[])?;
+    assert!(rt; graph.ready_at(0) == Some(1));
+    assert!(rt; graph.ready_at(1) == Some(2));
+    assert!(rt; graph.ready_at(2).is_none());
+    graph.finish(1);
+    assert!(rt; graph.ready_at(0) == Some(2));
+    assert!(rt; graph.ready_at(1).is_none());
+    graph.finish(2);
+    assert!(rt; graph.ready_at(0).is_none());
+    Ok(())
+}
+
+// `join("A", "B", "C"); join("B", "A", "C");`: neither call reads what the other writes, and the
+// second may finish first.
 #[test]
 fn tasks_that_read_no_output_are_ready_at_once(rt: HostRuntime) -> Result<(), Fail> {
     let mut graph = Graph::new(rt.alloc());

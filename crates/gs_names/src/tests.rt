@@ -31,7 +31,8 @@ fn is_output(version: &Version, task: u32) -> bool {
     matches!(version, Version::Out { n, .. } if *n == task)
 }
 
-// Two tasks write one file, then the main program another, which was numbered first.
+// `join("A", "B", "C"); join("B", "A", "C");`, and then the main program writes `A`, which was
+// numbered first.
 #[test]
 fn finals_stand_in_the_order_of_first_writing(rt: HostRuntime) -> Result<(), Fail> {
     let a = Name::read(b"A")?;
@@ -70,5 +71,23 @@ fn a_call_reads_what_the_last_writer_gave(rt: HostRuntime) -> Result<(), Fail> {
     let finals = table.finals(rt.alloc())?;
     assert_eq!(rt; finals.len(), 1);
     assert!(rt; finals[0].0 == f && is_output(&finals[0].1, 2));
+    Ok(())
+}
+
+// `join("A", "B", "C"); grow("A", "x");`: both calls read the user's own `A`.
+#[test]
+fn a_call_reads_the_file_that_a_later_one_replaces(rt: HostRuntime) -> Result<(), Fail> {
+    let a = Name::read(b"A")?;
+    let c = Name::read(b"C")?;
+    let mut table = NameTable::new(rt.alloc());
+    let _ = table.number(a.copy())?;
+    let _ = table.number(c.copy())?;
+    table.reserve(2)?;
+    assert!(rt; matches!(table.current(&a), Version::Original { .. }));
+    table.write(&c, Version::Out { n: 1, place: 3 });
+    assert!(rt; matches!(table.current(&a), Version::Original { .. }));
+    table.write(&a, Version::Out { n: 2, place: 1 });
+    assert!(rt; is_output(&table.current(&a), 2));
+    assert!(rt; is_output(&table.current(&c), 1));
     Ok(())
 }

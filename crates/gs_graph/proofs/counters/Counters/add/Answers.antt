@@ -52,9 +52,9 @@ never_done (d ∷ ds) (suc k) e = never_done ds k (omega arith)
 
 pub push_last-requires : goal.push_last-requires
 push_last-requires c =
-    let a = c.push_edges.ensures.capacity in
+    let a = c.in_ok-push_edges.ensures.capacity in
     let b = c.in_ok-reserve-3.ensures.ok in
-    let d = c.push_edges.ensures.len in
+    let d = c.in_ok-push_edges.ensures.len in
     let e = c.push_edges.new.next.ok.0 in
     let f = c.reserve-3.new.self.ok.0 in omega arith
 
@@ -68,8 +68,8 @@ invariant_of-self-2 c =
     let is_n : n ≡ count = c.len-n.ensures ∙ old.missing.ok.0 in
     let now : ℕ → List ℕ = after c.push_last.new.xs.items in
     let edges : (q : ℕ) → now q ≡ ends count q ps (after old.next.items q) = λ q.
-    ap (λ (xs : List (Vec ℕ Global)). after xs q) c.push_last.ensures ∙ after_pushed c.push_edges.new.next.items c.new.result q c.new.ensures.items ∙ c.push_edges.ensures.edges q
-    ∙ ap (ends n q ps) (ap (λ (xs : List (Vec ℕ Global)). after xs q) c.reserve-3.ensures.items ∙ c.reserve_edges.ensures.same q) ∙ ap (λ (i : ℕ). ends i q ps (after old.next.items q)) is_n in
+    ap (λ (xs : List (Vec ℕ Global)). after xs q) c.push_last.ensures ∙ after_pushed c.push_edges.new.next.items c.new.result q c.new.ensures.items ∙ c.in_ok-push_edges.ensures.edges q
+    ∙ ap (ends n q ps) (ap (λ (xs : List (Vec ℕ Global)). after xs q) c.reserve-3.ensures.items) ∙ ap (λ (i : ℕ). ends i q ps (after old.next.items q)) is_n in
     let missing : c.push_last-2.new.xs.items ≡ old.missing.items ++ c.open_count-open.result ∷ [] = c.push_last-2.ensures ∙ ap (λ (xs : List ℕ). xs ++ c.open_count-open.result ∷ []) c.reserve.ensures.items in
     let done : c.push_last-3.new.xs.items ≡ old.done.items ++ false ∷ [] = c.push_last-3.ensures ∙ ap (λ (xs : List Bool). xs ++ false ∷ []) c.reserve-2.ensures.items in
     let next : length c.push_last.new.xs.items ≡ suc (length c.push_edges.new.next.items) = ap length c.push_last.ensures ∙ one_longer c.push_edges.new.next.items c.new.result in
@@ -82,7 +82,7 @@ invariant_of-self-2 c =
     let fresh : done_at old.done.items count ≡ false = never_done old.done.items count (let s = old.done_same in omega arith) in
     record {
       done_same = let a = ap length done ∙ one_longer old.done.items false in let b = old.done_same in omega arith;
-      next_same = let a = c.push_edges.ensures.len in let b = ap length c.reserve-3.ensures.items in let d = c.reserve_edges.ensures.len in let e = old.next_same in omega arith;
+      next_same = let a = c.in_ok-push_edges.ensures.len in let b = ap length c.reserve-3.ensures.items in let e = old.next_same in omega arith;
       later = λ p. ap (λ (i : ℕ). all_below i (now p)) len ∙ ap (all_below (suc count)) (edges p) ∙ below_ends count p ps (after old.next.items p) (below_more count (after old.next.items p) (old.later p));
       opened = λ m below. elim (cases_lt m count) [
         | inl before ↦
@@ -110,8 +110,8 @@ returns-clause-needs c = λ m p.
     let n = c.len-n.result in
     let is_n : n ≡ count = c.len-n.ensures ∙ old.missing.ok.0 in
     let edges : after c.push_last.new.xs.items p ≡ ends count p ps (after old.next.items p) =
-    ap (λ (xs : List (Vec ℕ Global)). after xs p) c.push_last.ensures ∙ after_pushed c.push_edges.new.next.items c.new.result p c.new.ensures.items ∙ c.push_edges.ensures.edges p
-    ∙ ap (ends n p ps) (ap (λ (xs : List (Vec ℕ Global)). after xs p) c.reserve-3.ensures.items ∙ c.reserve_edges.ensures.same p) ∙ ap (λ (i : ℕ). ends i p ps (after old.next.items p)) is_n in
+    ap (λ (xs : List (Vec ℕ Global)). after xs p) c.push_last.ensures ∙ after_pushed c.push_edges.new.next.items c.new.result p c.new.ensures.items ∙ c.in_ok-push_edges.ensures.edges p
+    ∙ ap (ends n p ps) (ap (λ (xs : List (Vec ℕ Global)). after xs p) c.reserve-3.ensures.items) ∙ ap (λ (i : ℕ). ends i p ps (after old.next.items p)) is_n in
     ap (has m) edges ∙ waits old.next.items ps count m p (old.later p)
 
 pub returns-clause-fresh : goal.returns-clause-fresh
