@@ -37,8 +37,10 @@ step_of (order.Read line got handle to next) = fetch line got handle to next
 step_of (order.Close line handle next) = save line handle next
 step_of (order.Wait line next) = wait line next
 step_of (order.Print line format args next) = show line format (all_placed_of args.items) next
-step_of (order.PrintFile line handle format args next) = show_in line handle format (all_placed_of args.items) next
-step_of (order.PrintStr line to format args next) = show_to line to format (all_placed_of args.items) next
+step_of (order.PrintFile line handle format args next) = show_in line handle format
+    (all_placed_of args.items) next
+step_of (order.PrintStr line to format args next) = show_to line to format
+    (all_placed_of args.items) next
 step_of (order.Call line op args next) = send line op (map handed_of args.items) next
 step_of (order.Leave line) = leave line
 

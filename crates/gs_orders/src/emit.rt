@@ -1,4 +1,5 @@
-// A program made into orders, from its end to its beginning: what follows a statement is made before it.
+// A program made into orders, from its end to its beginning: what follows a statement is made
+// before it.
 ghost use Rattle.std.specs.Prelude.{◌≡◌, ◌∷◌, [], IfOk, OnOk, set, map, MatchOption};
 ghost use Rattle.std.specs.Option.{option_map};
 ghost use Rattle.gs_tree.specs.Program as tree;
@@ -277,8 +278,9 @@ pub struct Orders {
     pub list: Vec<Order>,
 }
 
-/// Makes the orders of a program whose variables have these names, in the order of their declaration: one for each
-/// assignment, test, call, print and the like, one for GS_On, and the last for GS_Off. The only error is want of memory.
+/// Makes the orders of a program whose variables have these names, in the order of their
+/// declaration: one for each assignment, test, call, print and the like, one for GS_On, and the
+/// last for GS_Off. The only error is want of memory.
 pub fn orders_of(alloc: Global, tree: &Tree, idl: &Idl, names: &[Blob]) -> Result<Orders, NoMemory>
     ensures { IfOk result (λ o.
         SaysProgram (scene names.now idl.now.ops) o.list.items o.start (program_of tree.now)) }

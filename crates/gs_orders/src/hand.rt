@@ -11,7 +11,8 @@ use gs_tree::{Argument, Expr};
 use gs_types::{Blob, NoMemory};
 use std::alloc::Global;
 
-/// An argument that is evaluated, or the place of the variable that a number or a string is left in.
+/// An argument that is evaluated, or the place of the variable that a number or a string is left
+/// in.
 #[derive(Drop)]
 pub enum Handed {
     ByValue { value: Formula },

@@ -1,4 +1,5 @@
-//! A main program as a flat list of orders, each of which takes one step and says where the next one stands.
+//! A main program as a flat list of orders, each of which takes one step and says where the next
+//! one stands.
 #![tactic(auto)]
 
 mod emit;

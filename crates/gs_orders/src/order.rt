@@ -4,8 +4,8 @@ use gs_talk::Formula;
 use gs_tree::Mode;
 use gs_types::Blob;
 
-/// What one step of a program does. Variables and handles are named by their places in the order of declaration, and
-/// `next` is the place of the order that follows.
+/// What one step of a program does. Variables and handles are named by their places in the order of
+/// declaration, and `next` is the place of the order that follows.
 #[derive(Drop)]
 pub enum Order {
     Skip {

@@ -39,8 +39,8 @@ pub struct Policy<F: Prices, C: CostLaw> {
 }
 
 impl<F: Prices, C: CostLaw> Policy<F, C> {
-    /// The policy of a closure that may be called with each operation below 64, each worker below 64
-    /// and at most 268,435,456 bytes, and that answers the law's cost there.
+    /// The policy of a closure that may be called with each operation below 64, each worker below
+    /// 64 and at most 268,435,456 bytes, and that answers the law's cost there.
     pub fn new(f: F, law: &C) -> Policy<F, C>
         requires facts { AreFacts (F.may f) }
         requires callable { IsCallable (F.may f) }

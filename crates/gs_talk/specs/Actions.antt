@@ -1,4 +1,5 @@
--- The actions of a sequential run: who wrote a file last, which task depends on which, and what an action needs.
+-- The actions of a sequential run: who wrote a file last, which task depends on which, and what an
+-- action needs.
 use Rattle.std.specs.Prelude.{◌≡◌, ℕ, zero, suc, ◌+◌, Bool, true, false, List, [], ◌∷◌, ◌++◌, length, Option, Some, None, ◌⊎◌, if◌then◌else◌}
 use Rattle.std.specs.List.{list_any}
 use Rattle.std.specs.Str.{bytes_eq}
@@ -41,7 +42,9 @@ unless_refused (Some a) act = []
 abbrev pub act_of : Run → World → Question → List Act
 act_of r w (q.Call op line args) =
     let ps = params_at r.texts.ops op in
-    unless_refused (first_refused w.files ps args) (Call (length w.tasks + 1) op (names_where reads_file ps args) (names_where writes_file ps args))
+    unless_refused (first_refused w.files ps args)
+    (Call (length w.tasks + 1) op (names_where reads_file ps args)
+    (names_where writes_file ps args))
 act_of r w (q.Use n place) = Use n place ∷ []
 act_of r w (q.OpenFile name mode line) = Read name ∷ []
 act_of r w (q.CloseFile name bytes) = Write name ∷ []

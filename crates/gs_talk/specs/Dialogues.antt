@@ -39,7 +39,8 @@ pub record Opened : Type 0 where
   pub content : List ℕ
   pub at : ℕ
 
--- the variables and handles by their places, the text, the distinct names of files so far, and how many tasks were called and actions asked
+-- the variables and handles by their places, the text, the distinct names of files so far, and how
+-- many tasks were called and actions asked
 pub record State : Type 0 where
   pub vars : List Slot
   pub handles : List (Option Opened)
@@ -48,7 +49,8 @@ pub record State : Type 0 where
   pub tasks : ℕ
   pub actions : ℕ
 
--- A dialogue asks, and goes on by the answer; or it stops at a last question; or it is done, with so many steps left.
+-- A dialogue asks, and goes on by the answer; or it stops at a last question; or it is done, with
+-- so many steps left.
 pub data Dialogue : Type 0 where
   Done : (steps : ℕ) (s : State) → Dialogue
   Ask : (q : Question) (s : State) (next : Answer → Dialogue) → Dialogue
@@ -86,7 +88,8 @@ counted s = record s { actions = s.actions + 1 }
 
 -- where an action is due: it is counted as it is asked
 abbrev pub action : (line : ℕ) → State → (State → Dialogue) → Dialogue
-action line s go = if nat_lt s.actions ACTION_LIMIT then go (counted s) else fails line TooManyActions s
+action line s go = if nat_lt s.actions ACTION_LIMIT then go (counted s)
+    else fails line TooManyActions s
 
 -- the value of an answer; 0 for an answer of another kind
 abbrev pub taken : Answer → Value
@@ -99,9 +102,11 @@ taken TooLong = Int (pos 0)
 abbrev pub set_to : (i : ℕ) → Value → State → State
 set_to i v s = record s { vars = set s.vars i (Held v) }
 
--- the first use of variable i, which waits for task n's value at a place: it holds the answer from then on
+-- the first use of variable i, which waits for task n's value at a place: it holds the answer from
+-- then on
 abbrev pub used : (line i n place : ℕ) → State → (Value → State → Dialogue) → Dialogue
-used line i n place s go = action line s (λ u. Ask (Use n place) u (λ a. go (taken a) (set_to i (taken a) u)))
+used line i n place s go = action line s
+    (λ u. Ask (Use n place) u (λ a. go (taken a) (set_to i (taken a) u)))
 
 -- ---- expressions
 
@@ -125,7 +130,8 @@ valued line (number v) s go = go (Int v) s
 valued line (text b) s go = go (Str b) s
 valued line (at i) s go = looked line i (slice_get s.vars i) s go
 valued line (converted a) s go = valued line a s (λ x u. fitted line (atoi_of (text_of x)) u go)
-valued line (compared a b) s go = valued line a s (λ x u. valued line b u (λ y w. go (Int (order_of (text_of x) (text_of y))) w))
+valued line (compared a b) s go = valued line a s
+    (λ x u. valued line b u (λ y w. go (Int (order_of (text_of x) (text_of y))) w))
 valued line (negated a) s go = valued line a s (λ x u. fitted line (fit (pos 0 -ℤ int_of x)) u go)
 valued line (inverted a) s go = valued line a s (λ x u. go (Int (truth (is_zero (int_of x)))) u)
 valued line (both op a b) s go =
@@ -133,6 +139,8 @@ valued line (both op a b) s go =
     (valued line b u (λ y w. fitted line (apply op (int_of x) (int_of y)) w go)))
 
 -- the values of several expressions, in order
-abbrev pub all_valued : (line : ℕ) → List Placed → State → (List Value → State → Dialogue) → Dialogue
+abbrev pub all_valued : (line : ℕ) → List Placed → State → (List Value → State → Dialogue)
+    → Dialogue
 all_valued line [] s go = go [] s
-all_valued line (t ∷ ts) s go = valued line t s (λ v u. all_valued line ts u (λ vs w. go (v ∷ vs) w))
+all_valued line (t ∷ ts) s go = valued line t s
+    (λ v u. all_valued line ts u (λ vs w. go (v ∷ vs) w))

@@ -12,7 +12,8 @@ abbrev pub arg_before : CallArg → Result (List CallArg) Trouble → Result (Li
 arg_before a (Ok args) = Ok (a ∷ args)
 arg_before a (Err e) = Err e
 
-abbrev pub value_first : ParamKind → Result Value Trouble → Result (List CallArg) Trouble → Result (List CallArg) Trouble
+abbrev pub value_first : ParamKind → Result Value Trouble → Result (List CallArg) Trouble
+    → Result (List CallArg) Trouble
 value_first kind (Ok v) more = arg_before (arg_of kind v) more
 value_first kind (Err e) more = Err e
 
@@ -20,5 +21,7 @@ value_first kind (Err e) more = Err e
 abbrev pub passed_values : List Param → List Handed → List Slot → Result (List CallArg) Trouble
 passed_values [] args vars = Ok []
 passed_values (p ∷ ps) [] vars = Ok []
-passed_values (p ∷ ps) (into i ∷ args) vars = arg_before (out_of p.kind) (passed_values ps args vars)
-passed_values (p ∷ ps) (by_value t ∷ args) vars = value_first p.kind (value_of t vars) (passed_values ps args vars)
+passed_values (p ∷ ps) (into i ∷ args) vars = arg_before (out_of p.kind)
+    (passed_values ps args vars)
+passed_values (p ∷ ps) (by_value t ∷ args) vars = value_first p.kind (value_of t vars)
+    (passed_values ps args vars)

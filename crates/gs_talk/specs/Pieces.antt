@@ -25,4 +25,5 @@ Begins format (begins.Piece p rest) = Continues format (part_of p) rest.now
 
 -- a piece is written with its value, whatever follows it; these values are left
 abbrev pub Puts : code.Piece → (values left : List Value) → (old new : List ℕ) → Type 0
-Puts p values left old new = (more : List Piece) → new ++ rendered more left ≡ old ++ rendered (part_of p ∷ more) values
+Puts p values left old new = (more : List Piece) → new ++ rendered more left ≡ old
+    ++ rendered (part_of p ∷ more) values

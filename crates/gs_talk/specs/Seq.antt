@@ -32,8 +32,8 @@ Files = List ℕ → Option Content
 
 -- ---- tasks
 
--- a task: its operation's name and the places of the call, what stands at them where no input is lost, and what it gave; None
--- where it is lost
+-- a task: its operation's name and the places of the call, what stands at them where no input is
+-- lost, and what it gave; None where it is lost
 pub record Task : Type 0 where
   pub op : ℕ
   pub params : List Param
@@ -76,7 +76,8 @@ or_next (Some a) next = Some a
 abbrev pub first_refused : Files → List Param → List CallArg → Option Answer
 first_refused files [] args = None
 first_refused files (p ∷ ps) [] = None
-first_refused files (p ∷ ps) (a ∷ args) = or_next (refused_at files p a) (first_refused files ps args)
+first_refused files (p ∷ ps) (a ∷ args) = or_next (refused_at files p a)
+    (first_refused files ps args)
 
 -- ---- what a task is given and leaves
 
@@ -165,7 +166,8 @@ content_of (value.Str s) = Lost
 abbrev pub all_lost : List Param → List CallArg → Files → Files
 all_lost [] args files = files
 all_lost (p ∷ ps) [] files = files
-all_lost (p ∷ ps) (arg.File name ∷ args) files = all_lost ps args (if writes_file p then with_file name Lost files else files)
+all_lost (p ∷ ps) (arg.File name ∷ args) files = all_lost ps args (if writes_file p
+    then with_file name Lost files else files)
 all_lost (p ∷ ps) (arg.Int v ∷ args) files = all_lost ps args files
 all_lost (p ∷ ps) (arg.Str s ∷ args) files = all_lost ps args files
 all_lost (p ∷ ps) (arg.OutInt ∷ args) files = all_lost ps args files
@@ -184,7 +186,8 @@ abbrev pub all_set : List Param → List CallArg → List Value → Files → Fi
 all_set [] args outs files = files
 all_set (p ∷ ps) [] outs files = files
 all_set (p ∷ ps) (arg.File name ∷ args) outs files =
-    if writes_file p then all_set ps args (rest_of outs) (set_first name outs files) else all_set ps args outs files
+    if writes_file p then all_set ps args (rest_of outs) (set_first name outs files)
+    else all_set ps args outs files
 all_set (p ∷ ps) (arg.Int v ∷ args) outs files = all_set ps args outs files
 all_set (p ∷ ps) (arg.Str s ∷ args) outs files = all_set ps args outs files
 all_set (p ∷ ps) (arg.OutInt ∷ args) outs files = all_set ps args (rest_of outs) files
@@ -209,7 +212,8 @@ output_at (OutFile ∷ args) outs (suc zero) = slice_get outs 0
 output_at (OutInt ∷ args) outs (suc zero) = slice_get outs 0
 output_at (OutStr ∷ args) outs (suc zero) = slice_get outs 0
 output_at (Given v ∷ args) outs (suc (suc place)) = output_at args outs (suc place)
-output_at (both_ways bytes ∷ args) outs (suc (suc place)) = output_at args (rest_of outs) (suc place)
+output_at (both_ways bytes ∷ args) outs (suc (suc place)) = output_at args (rest_of outs)
+    (suc place)
 output_at (OutFile ∷ args) outs (suc (suc place)) = output_at args (rest_of outs) (suc place)
 output_at (OutInt ∷ args) outs (suc (suc place)) = output_at args (rest_of outs) (suc place)
 output_at (OutStr ∷ args) outs (suc (suc place)) = output_at args (rest_of outs) (suc place)
@@ -240,7 +244,8 @@ val_of (Some v) = Some (Val v)
 
 abbrev pub opened : Option Content → Option Answer
 opened None = Some Absent
-opened (Some (Known bytes)) = if nat_le (length bytes) FILE_LIMIT then Some (Bytes bytes) else Some TooLong
+opened (Some (Known bytes)) = if nat_le (length bytes) FILE_LIMIT then Some (Bytes bytes)
+    else Some TooLong
 opened (Some Lost) = None
 
 abbrev pub unless_lost : Bool → Option Answer
@@ -260,15 +265,21 @@ reply ops w End = None
 reply ops w (Fault line kind) = None
 reply ops w FuelOut = None
 
-abbrev pub after_call : Meaning → List Signature → (op : ℕ) → List CallArg → Option Answer → World → World
+abbrev pub after_call : Meaning → List Signature → (op : ℕ) → List CallArg → Option Answer → World
+    → World
 after_call law ops op args None w = ran (task_of law ops w.files op args) w
 after_call law ops op args (Some a) w = w
 
 abbrev pub world_after : Meaning → List Signature → World → Question → World
-world_after law ops w (Call op line args) = after_call law ops op args (first_refused w.files (params_at ops op) args) w
+world_after law ops w (Call op line args) = after_call law ops op args
+    (first_refused w.files (params_at ops op) args) w
 world_after law ops w (Use n place) = w
 world_after law ops w (OpenFile name mode line) = w
-world_after law ops w (CloseFile name bytes) = record w { files = with_file name (Known bytes) w.files; closed = w.closed ++ bytes ∷ [] }
+world_after law ops w (CloseFile name bytes) = record w {
+  files = with_file name (Known bytes)
+      w.files;
+  closed = w.closed ++ bytes ∷ [];
+}
 world_after law ops w Barrier = w
 world_after law ops w End = w
 world_after law ops w (Fault line kind) = w
@@ -296,7 +307,10 @@ start r = record { world = first_world r.files; rest = dialogue r.texts r.fuel }
 
 abbrev pub answered : Run → Standing → Question → (Answer → Dialogue) → Option Answer → Standing
 answered r at q next None = at
-answered r at q next (Some a) = record { world = world_after r.law r.texts.ops at.world q; rest = next a }
+answered r at q next (Some a) = record {
+  world = world_after r.law r.texts.ops at.world q;
+  rest = next a;
+}
 
 abbrev pub step_by : Run → Standing → Dialogue → Standing
 step_by r at (Done n s) = at
@@ -328,7 +342,8 @@ last_of at = last_by (any_lost at.world) at.rest
 pub record EndsIn (r : Run) (k : ℕ) (q : Question) : Type 0 where
   pub last : last_of (seq r k) ≡ Some q
 
--- the run can go no further: a lost task's value, a lost file, or a last question or a barrier beside a lost task
+-- the run can go no further: a lost task's value, a lost file, or a last question or a barrier
+-- beside a lost task
 abbrev pub is_stuck_by : List Signature → World → Dialogue → Bool
 is_stuck_by ops w (Done n s) = false
 is_stuck_by ops w (Stop q s) = any_lost w

@@ -40,17 +40,21 @@ with_text out s = record s { text = out }
 
 -- the text grows within its limit
 abbrev pub printing : (line : ℕ) → List ℕ → Meaning
-printing line out n s = if nat_le (length (s.text ++ out)) PRINTED_LIMIT then Done n (with_text (s.text ++ out) s) else fails line TextTooLong s
+printing line out n s = if nat_le (length (s.text ++ out)) PRINTED_LIMIT
+    then Done n (with_text (s.text ++ out) s) else fails line TextTooLong s
 
 abbrev pub do_print : (line : ℕ) → (format : List ℕ) → List Placed → Meaning
-do_print line format args = step (λ n s. all_valued line args s (λ vs u. printing line (formatted format vs) n u))
+do_print line format args = step
+    (λ n s. all_valued line args s (λ vs u. printing line (formatted format vs) n u))
 
 -- a string variable is set within the limit of a string
 abbrev pub printing_str : (line to : ℕ) → List ℕ → Meaning
-printing_str line to out n s = if nat_le (length out) STRING_LIMIT then Done n (set_to to (Str out) s) else fails line StringTooLong s
+printing_str line to out n s = if nat_le (length out) STRING_LIMIT
+    then Done n (set_to to (Str out) s) else fails line StringTooLong s
 
 abbrev pub do_print_str : (line to : ℕ) → (format : List ℕ) → List Placed → Meaning
-do_print_str line to format args = step (λ n s. all_valued line args s (λ vs u. printing_str line to (formatted format vs) n u))
+do_print_str line to format args = step
+    (λ n s. all_valued line args s (λ vs u. printing_str line to (formatted format vs) n u))
 
 -- ---- files
 
@@ -119,7 +123,8 @@ opened Went line to name mode n s = shows to name mode [] n s
 opened (Val v) line to name mode n s = shows to name mode [] n s
 
 abbrev pub asks_to_open : (line to : ℕ) → (name : List ℕ) → Mode → Meaning
-asks_to_open line to name mode n s = action line s (λ u. Ask (OpenFile name mode line) u (λ a. opened a line to name mode n u))
+asks_to_open line to name mode n s = action line s
+    (λ u. Ask (OpenFile name mode line) u (λ a. opened a line to name mode n u))
 
 -- a file that is to be written is empty at first, and nothing is asked
 abbrev pub opening : (line to : ℕ) → (name : List ℕ) → Mode → Meaning
@@ -138,8 +143,10 @@ closed i s = with_handle i None s
 -- what was written is the file from then on
 abbrev pub closing_by : Mode → (line i : ℕ) → Opened → Meaning
 closing_by R line i h n s = Done n (closed i s)
-closing_by W line i h n s = action line s (λ u. Ask (CloseFile h.name h.content) (closed i u) (λ a. Done n (closed i u)))
-closing_by A line i h n s = action line s (λ u. Ask (CloseFile h.name h.content) (closed i u) (λ a. Done n (closed i u)))
+closing_by W line i h n s = action line s (λ u. Ask (CloseFile h.name h.content) (closed i u)
+    (λ a. Done n (closed i u)))
+closing_by A line i h n s = action line s (λ u. Ask (CloseFile h.name h.content) (closed i u)
+    (λ a. Done n (closed i u)))
 
 abbrev pub closing : (line i : ℕ) → Option Opened → Meaning
 closing line i None n s = fails line HandleClosed s
@@ -156,10 +163,13 @@ abbrev pub writing : (line i : ℕ) → List ℕ → Option Opened → Meaning
 writing line i out None n s = fails line HandleClosed s
 writing line i out (Some h) n s =
     if not (writes h.mode) then fails line WrongMode s
-    else (if nat_le (length (h.content ++ out)) FILE_LIMIT then Done n (with_handle i (Some (appended out h)) s) else fails line FileTooLong s)
+    else (if nat_le (length (h.content ++ out)) FILE_LIMIT
+    then Done n (with_handle i (Some (appended out h)) s) else fails line FileTooLong s)
 
 abbrev pub do_print_file : (line i : ℕ) → (format : List ℕ) → List Placed → Meaning
-do_print_file line i format args = step (λ n s. all_valued line args s (λ vs u. writing line i (formatted format vs) (opened_at u i) n u))
+do_print_file line i format args = step
+    (λ n s. all_valued line args s (λ vs u. writing line i (formatted format vs) (opened_at u i) n
+    u))
 
 abbrev pub read_to : (next : ℕ) → Opened → Opened
 read_to next h = record h { at = next }
@@ -168,11 +178,13 @@ abbrev pub line_taken : (line got_at i to : ℕ) → Opened → Result Taken Fau
 line_taken line got_at i to h (Err kind) n s = fails line kind s
 line_taken line got_at i to h (Ok no_more) n s = Done n (set_to got_at (Int (pos 0)) s)
 line_taken line got_at i to h (Ok (got bytes next)) n s =
-    Done n (set_to got_at (Int (pos 1)) (set_to to (Str bytes) (with_handle i (Some (read_to next h)) s)))
+    Done n (set_to got_at (Int (pos 1))
+    (set_to to (Str bytes) (with_handle i (Some (read_to next h)) s)))
 
 abbrev pub reading : (line got_at i to : ℕ) → Option Opened → Meaning
 reading line got_at i to None n s = fails line HandleClosed s
-reading line got_at i to (Some h) n s = if writes h.mode then fails line WrongMode s else line_taken line got_at i to h (read_line_at h.content h.at) n s
+reading line got_at i to (Some h) n s = if writes h.mode then fails line WrongMode s
+    else line_taken line got_at i to h (read_line_at h.content h.at) n s
 
 abbrev pub do_read : (line got_at i to : ℕ) → Meaning
 do_read line got_at i to = step (λ n s. reading line got_at i to (opened_at s i) n s)
@@ -192,7 +204,8 @@ variable_of (var name) = name.text
 variable_of t = []
 
 abbrev pub handed : (names : List (List ℕ)) → Param → Passed → Handed
-handed names p a = if is_out_scalar p then into (place_of names (variable_of a.value)) else by_value (placed names a.value)
+handed names p a = if is_out_scalar p then into (place_of names (variable_of a.value))
+    else by_value (placed names a.value)
 
 abbrev pub all_handed : (names : List (List ℕ)) → List Param → List Passed → List Handed
 all_handed names [] args = []
@@ -210,10 +223,12 @@ out_of kind.Int = arg.OutInt
 out_of kind.Str = arg.OutStr
 
 -- what stands at each place, from the left
-abbrev pub passed_valued : (line : ℕ) → List Param → List Handed → State → (List CallArg → State → Dialogue) → Dialogue
+abbrev pub passed_valued : (line : ℕ) → List Param → List Handed → State
+    → (List CallArg → State → Dialogue) → Dialogue
 passed_valued line [] args s go = go [] s
 passed_valued line (p ∷ ps) [] s go = go [] s
-passed_valued line (p ∷ ps) (into i ∷ args) s go = passed_valued line ps args s (λ vs u. go (out_of p.kind ∷ vs) u)
+passed_valued line (p ∷ ps) (into i ∷ args) s go = passed_valued line ps args s
+    (λ vs u. go (out_of p.kind ∷ vs) u)
 passed_valued line (p ∷ ps) (by_value t ∷ args) s go =
     valued line t s (λ v u. passed_valued line ps args u (λ vs w. go (arg_of p.kind v ∷ vs) w))
 
@@ -237,7 +252,8 @@ file_fault t s p (Some name) =
 abbrev pub files_fault : Given → State → List Param → List CallArg → Option FaultKind
 files_fault t s [] args = None
 files_fault t s (p ∷ ps) [] = None
-files_fault t s (p ∷ ps) (a ∷ args) = option_or (file_fault t s p (file_at a)) (files_fault t s ps args)
+files_fault t s (p ∷ ps) (a ∷ args) = option_or (file_fault t s p (file_at a))
+    (files_fault t s ps args)
 
 abbrev pub cons_some : Option (List ℕ) → List (List ℕ) → List (List ℕ)
 cons_some None xs = xs
@@ -252,7 +268,8 @@ files_in (a ∷ args) = cons_some (file_at a) (files_in args)
 abbrev pub written_in : List Param → List CallArg → List (List ℕ)
 written_in [] args = []
 written_in (p ∷ ps) [] = []
-written_in (p ∷ ps) (a ∷ args) = if writes_file p then cons_some (file_at a) (written_in ps args) else written_in ps args
+written_in (p ∷ ps) (a ∷ args) = if writes_file p then cons_some (file_at a) (written_in ps args)
+    else written_in ps args
 
 abbrev pub has_twice : List (List ℕ) → Bool
 has_twice [] = false
@@ -292,7 +309,8 @@ went (Bytes bytes) line args n s = Done n (pending args s)
 
 -- the task is counted as it is called
 abbrev pub calling : (line op : ℕ) → List Handed → List CallArg → Meaning
-calling line op args vs n s = action line s (λ u. Ask (Call op line vs) (numbered u) (λ a. went a line args n (numbered u)))
+calling line op args vs n s = action line s (λ u. Ask (Call op line vs) (numbered u)
+    (λ a. went a line args n (numbered u)))
 
 abbrev pub do_call : Given → (line op : ℕ) → List Param → List Handed → Meaning
 do_call t line op ps args =
@@ -301,7 +319,8 @@ do_call t line op ps args =
 
 abbrev pub do_call_at : Given → (line : ℕ) → (op : Option ℕ) → List Passed → Meaning
 do_call_at t line None args = λ n s. Done n s
-do_call_at t line (Some op) args = do_call t line op (params_at t.ops op) (all_handed (names_of t) (params_at t.ops op) args)
+do_call_at t line (Some op) args = do_call t line op (params_at t.ops op)
+    (all_handed (names_of t) (params_at t.ops op) args)
 
 -- ---- tests and loops
 
@@ -319,7 +338,8 @@ ended n s = Done n s
 -- at most this many tests of a loop
 unfoldable pub turns : ℕ → ℕ → Placed → Meaning → Meaning
 turns zero line test body n s = Stop FuelOut s
-turns (suc k) line test body n s = tested line test (λ ends. branch ends (λ n s. then_do (body n s) (turns k line test body)) ended) n s
+turns (suc k) line test body n s = tested line test
+    (λ ends. branch ends (λ n s. then_do (body n s) (turns k line test body)) ended) n s
 
 -- an absent test is true
 abbrev pub test_or_true : Option Term → (line : ℕ) → Term
@@ -327,7 +347,8 @@ test_or_true None line = num line (pos 1)
 test_or_true (Some t) line = t
 
 abbrev pub run_setting : Given → Setting → Meaning
-run_setting t a n s = do_set a.to.line (place_of (names_of t) a.to.text) (placed (names_of t) a.value) n s
+run_setting t a n s = do_set a.to.line (place_of (names_of t) a.to.text)
+    (placed (names_of t) a.value) n s
 
 abbrev pub run_maybe : Given → Option Setting → Meaning
 run_maybe t None n s = Done n s
@@ -344,19 +365,26 @@ abbrev mutual
   run t (block line body) n s = run_all t body n s
   run t (assign a) n s = run_setting t a n s
   run t (choose line test then_do else_do) n s =
-      tested line (placed (names_of t) test) (λ b. branch b (run_all t then_do) (run_else t else_do)) n s
+      tested line (placed (names_of t) test)
+      (λ b. branch b (run_all t then_do) (run_else t else_do)) n s
   -- each test costs a step, so there are no more tests than steps
-  run t (while line test body) n s = turns (suc n) line (placed (names_of t) test) (run_all t body) n s
+  run t (while line test body) n s = turns (suc n) line (placed (names_of t) test) (run_all t body)
+      n s
   run t (for line first test step body) n s =
       then_do (run_maybe t first n s)
-      (λ n s. turns (suc n) line (placed (names_of t) (test_or_true test line)) (λ n s. then_do (run_all t body n s) (run_maybe t step)) n s)
-  run t (open_file line to path mode) n s = do_open t line (variable t to.text) (placed (names_of t) path) mode n s
-  run t (read_line line got_at handle to) n s = do_read line (variable t got_at.text) (variable t handle.text) (variable t to.text) n s
+      (λ n s. turns (suc n) line (placed (names_of t) (test_or_true test line))
+      (λ n s. then_do (run_all t body n s) (run_maybe t step)) n s)
+  run t (open_file line to path mode) n s = do_open t line (variable t to.text)
+      (placed (names_of t) path) mode n s
+  run t (read_line line got_at handle to) n s = do_read line (variable t got_at.text)
+      (variable t handle.text) (variable t to.text) n s
   run t (close_file line handle) n s = do_close line (variable t handle.text) n s
   run t (barrier line) n s = do_barrier line n s
   run t (print line format args) n s = do_print line format.text (all_placed (names_of t) args) n s
-  run t (print_file line handle format args) n s = do_print_file line (variable t handle.text) format.text (all_placed (names_of t) args) n s
-  run t (print_str line to format args) n s = do_print_str line (variable t to.text) format.text (all_placed (names_of t) args) n s
+  run t (print_file line handle format args) n s = do_print_file line (variable t handle.text)
+      format.text (all_placed (names_of t) args) n s
+  run t (print_str line to format args) n s = do_print_str line (variable t to.text) format.text
+      (all_placed (names_of t) args) n s
   run t (call op args) n s = do_call_at t op.line (op_place t.ops op.text) args n s
 
   pub run_all : Given → Codes → Meaning
@@ -404,7 +432,9 @@ start t = record {
 -- the initial assignments, GS_On, the statements, and GS_Off
 abbrev pub dialogue : Given → (fuel : ℕ) → Dialogue
 dialogue t fuel =
-    then_do (run_first t t.program.first fuel (start t)) (λ n s. then_do (step ended n s) (λ n s. then_do (run_all t t.program.body n s) (finish t.program.off)))
+    then_do (run_first t t.program.first fuel (start t))
+    (λ n s. then_do (step ended n s) (λ n s. then_do (run_all t t.program.body n s)
+    (finish t.program.off)))
 
 -- ---- a dialogue with the answers so far
 

@@ -48,7 +48,8 @@ pub data Taken : Type 0 where
 
 -- behind the line feed, where one stands
 abbrev pub next_at : List ℕ → ℕ → ℕ
-next_at bytes at = if nat_le (length bytes) (at + length (line_at bytes at)) then length bytes else at + length (line_at bytes at) + 1
+next_at bytes at = if nat_le (length bytes) (at + length (line_at bytes at)) then length bytes
+    else at + length (line_at bytes at) + 1
 
 abbrev pub taken_line : List ℕ → (next : ℕ) → Result Taken FaultKind
 taken_line line next =
@@ -57,4 +58,5 @@ taken_line line next =
 
 -- the line at a place, or the end
 unfoldable pub read_line_at : List ℕ → (at : ℕ) → Result Taken FaultKind
-read_line_at bytes at = if nat_le (length bytes) at then Ok no_more else taken_line (line_at bytes at) (next_at bytes at)
+read_line_at bytes at = if nat_le (length bytes) at then Ok no_more
+    else taken_line (line_at bytes at) (next_at bytes at)

@@ -43,7 +43,8 @@ quotient a b = if is_zero b then Err ZeroDivisor else fit (int_div a b)
 
 -- what is left of a, which is out of range exactly where the quotient is
 abbrev pub remainder : ℤ → ℤ → Result ℤ FaultKind
-remainder a b = if is_zero b then Err ZeroDivisor else (if fits (int_div a b) then Ok (int_rem a b) else Err Overflow)
+remainder a b = if is_zero b then Err ZeroDivisor else (if fits (int_div a b) then Ok (int_rem a b)
+    else Err Overflow)
 
 abbrev pub apply : Op → ℤ → ℤ → Result ℤ FaultKind
 apply Or a b = Ok (truth (not (is_zero b)))
@@ -156,9 +157,11 @@ value_of (number v) vars = Ok (Int v)
 value_of (text s) vars = Ok (Str s)
 value_of (at i) vars = held_at i (slice_get vars i)
 value_of (converted a) vars = with_value (value_of a vars) (λ x. or_kind (atoi_of (text_of x)))
-value_of (compared a b) vars = with_value (value_of a vars) (λ x. with_value (value_of b vars) (λ y. Ok (Int (order_of (text_of x) (text_of y)))))
+value_of (compared a b) vars = with_value (value_of a vars)
+    (λ x. with_value (value_of b vars) (λ y. Ok (Int (order_of (text_of x) (text_of y)))))
 value_of (negated a) vars = with_value (value_of a vars) (λ x. or_kind (fit (pos 0 -ℤ int_of x)))
-value_of (inverted a) vars = with_value (value_of a vars) (λ x. Ok (Int (truth (is_zero (int_of x)))))
+value_of (inverted a) vars = with_value (value_of a vars)
+    (λ x. Ok (Int (truth (is_zero (int_of x)))))
 value_of (both op a b) vars =
     with_value (value_of a vars) (λ x. unless_decided (decided op (int_of x))
     (with_value (value_of b vars) (λ y. or_kind (apply op (int_of x) (int_of y)))))
@@ -167,7 +170,8 @@ abbrev pub before_all : Value → Result (List Value) Trouble → Result (List V
 before_all v (Ok vs) = Ok (v ∷ vs)
 before_all v (Err e) = Err e
 
-abbrev pub first_then : Result Value Trouble → Result (List Value) Trouble → Result (List Value) Trouble
+abbrev pub first_then : Result Value Trouble → Result (List Value) Trouble
+    → Result (List Value) Trouble
 first_then (Ok v) more = before_all v more
 first_then (Err e) more = Err e
 

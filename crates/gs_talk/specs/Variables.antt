@@ -16,17 +16,20 @@ pub record Variables : Type 0 where
   pub kinds : List VarKind
   pub slots : List Slot
 
-abbrev pub variables : (names : List (List ℕ)) (kinds : List VarKind) (slots : List Slot) → Variables
+abbrev pub variables : (names : List (List ℕ)) (kinds : List VarKind) (slots : List Slot)
+    → Variables
 variables names kinds slots = record { names = names; kinds = kinds; slots = slots }
 
 -- each name has a kind and a slot
-pub record IsPaired (names : List (List ℕ)) (kinds : List VarKind) (slots : List Slot) : Type 0 where
+pub record IsPaired (names : List (List ℕ)) (kinds : List VarKind) (slots : List Slot) : Type
+    0 where
   pub a_kind : length kinds ≡ length names
   pub a_slot : length slots ≡ length names
 
 -- each with its first value
 abbrev pub first_variables : List (Name × VarKind) → Variables
-first_variables vars = variables (map (λ v. v.0.text) vars) (map (λ v. v.1) vars) (map (λ v. first_slot v.1) vars)
+first_variables vars = variables (map (λ v. v.0.text) vars) (map (λ v. v.1) vars)
+    (map (λ v. first_slot v.1) vars)
 
 abbrev pub kind_named : Variables → List ℕ → Option VarKind
 kind_named vars name = slice_get vars.kinds (place_of vars.names name)
@@ -39,7 +42,8 @@ scalar (Some kind.Handle) slot = None
 
 -- the slot of the int or string variable of this name
 abbrev pub slot_named : Variables → List ℕ → Option Slot
-slot_named vars name = scalar (kind_named vars name) (slice_get vars.slots (place_of vars.names name))
+slot_named vars name = scalar (kind_named vars name)
+    (slice_get vars.slots (place_of vars.names name))
 
 abbrev pub held_in : Option Slot → Option Value
 held_in None = None

@@ -4,8 +4,8 @@ ghost use Rattle.std.specs.Prelude.{◌≡◌};
 use gs_types::{FaultKind, NoMemory};
 use std::alloc::AllocFailed;
 
-/// Why an expression by places has no value: a fault, the variable `i` that waits for task `n`'s value at a place,
-/// from 1, or want of memory.
+/// Why an expression by places has no value: a fault, the variable `i` that waits for task `n`'s
+/// value at a place, from 1, or want of memory.
 #[derive(Clone, Copy, Debug, PartialEq, Eq)]
 pub enum Trouble {
     Kind { kind: FaultKind },
@@ -33,8 +33,8 @@ impl<T: Drop> From<AllocFailed<T>> for Trouble {
     }
 }
 
-/// Why an expression has no value, or a line isn't taken: a fault, a value of task `n` at a place, from 1, that is
-/// waited for, or want of memory.
+/// Why an expression has no value, or a line isn't taken: a fault, a value of task `n` at a place,
+/// from 1, that is waited for, or want of memory.
 #[derive(Clone, Copy, Debug, PartialEq, Eq)]
 pub enum TalkErr {
     Kind { kind: FaultKind },

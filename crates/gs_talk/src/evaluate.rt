@@ -58,8 +58,8 @@ fn look(alloc: Global, i: usize, vars: &[Slot]) -> Result<Value, Trouble>
     }
 }
 
-/// The value of an expression, or the first trouble from the left. `&&` and `||` leave the right side out where the
-/// left side decides.
+/// The value of an expression, or the first trouble from the left. `&&` and `||` leave the right
+/// side out where the left side decides.
 pub fn value(alloc: Global, e: &Formula, vars: &[Slot]) -> Result<Value, Trouble>
     ensures { Finds (value_of (placed_of e.now) vars.now) result }
 {
@@ -110,8 +110,9 @@ pub fn values(alloc: Global, es: &[Formula], vars: &[Slot]) -> Result<Vec<Value>
     Ok(all)
 }
 
-/// The value of an expression: a fault or the value that is waited for, whichever comes first from the left.
-/// `NoMemory` comes also for a literal that is no string; the reader of programs gives none.
+/// The value of an expression: a fault or the value that is waited for, whichever comes first from
+/// the left. `NoMemory` comes also for a literal that is no string; the reader of programs gives
+/// none.
 pub fn eval(alloc: Global, e: &Expr, vars: &Vars) -> Result<Value, TalkErr>
     ensures { Evaluates (value_of (placed vars.now.names (term_of e.now)) vars.now.slots) result }
 {

@@ -99,8 +99,8 @@ fn put_piece<'a>(
     }
 }
 
-/// What a format gives for these values, in order. Where it is no format, or a value lacks, the checks of programs
-/// have refused it; then the rest is no bytes.
+/// What a format gives for these values, in order. Where it is no format, or a value lacks, the
+/// checks of programs have refused it; then the rest is no bytes.
 #[tactic(auto, unfolding(crate::specs::Texts::formatted))]
 pub fn format_bytes(alloc: Global, format: &[u8], args: &[Value]) -> Result<Vec<u8>, NoMemory>
     ensures { IfOk result (λ out. out.items ≡ formatted format.now args.now) }

@@ -55,8 +55,8 @@ pub fn place_of(names: &[Blob], name: &[u8]) -> usize
 }
 
 impl Formula {
-    /// The expression with these names' variables by their places. `NoMemory` comes also for a literal that is no
-    /// string; the reader of programs gives none.
+    /// The expression with these names' variables by their places. `NoMemory` comes also for a
+    /// literal that is no string; the reader of programs gives none.
     pub fn of(alloc: Global, e: &Expr, names: &[Blob]) -> Result<Formula, NoMemory>
         ensures { IfOk result (λ f. placed_of f ≡ placed names.now (term_of e.now)) }
     {

@@ -44,8 +44,8 @@ fn taken(alloc: Global, line: &[u8], next: usize) -> Result<Line, TalkErr>
     }
 }
 
-/// The line that begins at a place, from 0: `StringTooLong` for more than 1,024 bytes, else `BadByte` for a byte other
-/// than 9, 13 and 32 to 126.
+/// The line that begins at a place, from 0: `StringTooLong` for more than 1,024 bytes, else
+/// `BadByte` for a byte other than 9, 13 and 32 to 126.
 #[tactic(auto, unfolding(crate::specs::Texts::read_line_at))]
 pub fn line(alloc: Global, bytes: &[u8], at: usize) -> Result<Line, TalkErr>
     ensures { TakesLine (read_line_at bytes.now at) result }

@@ -15,7 +15,8 @@ pub enum CallArg {
 /// What a main program needs to go on, or how it ends.
 #[derive(Debug, Drop)]
 pub enum Question {
-    /// A task is called: the operation's place in the interface, the line of the call, and what stands at its places.
+    /// A task is called: the operation's place in the interface, the line of the call, and what
+    /// stands at its places.
     Call {
         op: u8,
         line: u32,

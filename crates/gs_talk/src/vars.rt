@@ -102,8 +102,8 @@ impl Vars {
         }
     }
 
-    /// The value of the variable of this name, which is not pending. None exactly where no int or string variable has
-    /// this name.
+    /// The value of the variable of this name, which is not pending. None exactly where no int or
+    /// string variable has this name.
     pub fn get(&self, name: &[u8]) -> Option<&Value>
         requires { due_in (slot_named self.now name.now) ≡ None }
         ensures value { option_copied result ≡ held_in (slot_named self.now name.now) }
@@ -116,7 +116,8 @@ impl Vars {
         }
     }
 
-    /// The task and the place, from 1, that the variable of this name waits for. None exactly where it is not pending.
+    /// The task and the place, from 1, that the variable of this name waits for. None exactly where
+    /// it is not pending.
     pub fn pending(&self, name: &[u8]) -> Option<(u32, u8)>
         ensures { result ≡ due_in (slot_named self.now name.now) }
     {
@@ -127,7 +128,8 @@ impl Vars {
         }
     }
 
-    /// The variable of this name has a value from then on. It is not pending then; the others stay as they were.
+    /// The variable of this name has a value from then on. It is not pending then; the others stay
+    /// as they were.
     pub fn set(&mut self, name: &[u8], v: Value)
         requires { Takes (kind_named self.old name.now) v }
         ensures { self.new ≡ with_slot self.old name.now (Held v) }
@@ -136,7 +138,8 @@ impl Vars {
         self.slots[i] = Slot::Held { v };
     }
 
-    /// The variable of this name waits for task `n`'s value at a place, from 1; the others stay as they were.
+    /// The variable of this name waits for task `n`'s value at a place, from 1; the others stay as
+    /// they were.
     pub fn pend(&mut self, name: &[u8], n: u32, place: u8)
         requires { IsScalar (kind_named self.old name.now) }
         ensures { self.new ≡ with_slot self.old name.now (Due n place) }

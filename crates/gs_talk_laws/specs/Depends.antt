@@ -20,7 +20,8 @@ Wrote name (Some act.Ends) v = ⊥
 
 -- at each moment the last writer of a file gave it its last version
 abbrev pub LastWriterWrote : Type 0
-LastWriterWrote = (r : Run) (k : ℕ) (name : List ℕ) → Wrote name (last_writer (acts r k) name) (latest name (writings r k))
+LastWriterWrote = (r : Run) (k : ℕ) (name : List ℕ)
+    → Wrote name (last_writer (acts r k) name) (latest name (writings r k))
 
 -- task j reads what task i left at some place
 pub record ReadsFrom (r : Run) (j i : ℕ) : Type 0 where

@@ -15,16 +15,19 @@ IsPrefixOf {A} xs ys = (rest : List A) × (xs ++ rest ≡ ys)
 -- the first asks what the second asks, but where it has no step left
 abbrev pub Cut : Dialogue → Dialogue → Type 0
 Cut (Done n s) e = (m : ℕ) × (e ≡ Done m s)
-Cut (Ask q s next) e = (more : Answer → Dialogue) × (e ≡ Ask q s more) × ((a : Answer) → Cut (next a) (more a))
+Cut (Ask q s next) e = (more : Answer → Dialogue) × (e ≡ Ask q s more)
+    × ((a : Answer) → Cut (next a) (more a))
 Cut (Stop q s) e = (q ≡ FuelOut) ⊎ (e ≡ Stop q s)
 
 -- of two fuels the smaller asks what the greater asks, but where it has no step left
 abbrev pub SmallerIsCut : Type 0
 SmallerIsCut = (t : Given) (fuel more : ℕ) → fuel ≤ more → Cut (dialogue t fuel) (dialogue t more)
 
--- what is asked after some answers is asked at every greater fuel, with the same state, but for the fuel's end
+-- what is asked after some answers is asked at every greater fuel, with the same state, but for the
+-- fuel's end
 abbrev pub MoreFuel : Type 0
-MoreFuel = (t : Given) (fuel more : ℕ) (answers : List Answer) (q : Question) (s : State) → fuel ≤ more → q ≢ FuelOut →
+MoreFuel = (t : Given) (fuel more : ℕ) (answers : List Answer) (q : Question) (s : State)
+    → fuel ≤ more → q ≢ FuelOut →
     talk t fuel answers ≡ Asks q s → talk t more answers ≡ Asks q s
 
 -- ---- runs
@@ -49,7 +52,8 @@ exchanges r (suc k) = exchanges r k ++ exchange r (seq r k).world (seq r k).rest
 
 -- the questions at the smaller fuel begin those at the greater, with the same answers
 abbrev pub FuelPrefix : Type 0
-FuelPrefix = (r : Run) (fuel more k : ℕ) → fuel ≤ more → IsPrefixOf (exchanges (with_fuel r fuel) k) (exchanges (with_fuel r more) k)
+FuelPrefix = (r : Run) (fuel more k : ℕ) → fuel ≤ more
+    → IsPrefixOf (exchanges (with_fuel r fuel) k) (exchanges (with_fuel r more) k)
 
 -- no step is left
 pub record HasRunOut (at : Standing) : Type 0 where
@@ -63,17 +67,21 @@ pub record Alike (at other : Standing) : Type 0 where
 
 -- after as many questions both fuels stand alike, as long as the smaller has not run out
 abbrev pub SameStandings : Type 0
-SameStandings = (r : Run) (fuel more k : ℕ) → fuel ≤ more → Alike (seq (with_fuel r fuel) k) (seq (with_fuel r more) k) ⊎ HasRunOut (seq (with_fuel r fuel) k)
+SameStandings = (r : Run) (fuel more k : ℕ) → fuel ≤ more
+    → Alike (seq (with_fuel r fuel) k) (seq (with_fuel r more) k)
+    ⊎ HasRunOut (seq (with_fuel r fuel) k)
 
 -- ---- tasks and contents
 
 -- a task at some fuel is one at every greater fuel
 abbrev pub TasksGoOn : Type 0
-TasksGoOn = (r : Run) (fuel more n : ℕ) (t : Task) → fuel ≤ more → IsTask (with_fuel r fuel) n t → IsTask (with_fuel r more) n t
+TasksGoOn = (r : Run) (fuel more n : ℕ) (t : Task) → fuel ≤ more → IsTask (with_fuel r fuel) n t
+    → IsTask (with_fuel r more) n t
 
 -- a task that two fuels have is the same
 abbrev pub SameTasks : Type 0
-SameTasks = (r : Run) (fuel more n : ℕ) (t u : Task) → IsTask (with_fuel r fuel) n t → IsTask (with_fuel r more) n u → t ≡ u
+SameTasks = (r : Run) (fuel more n : ℕ) (t u : Task) → IsTask (with_fuel r fuel) n t
+    → IsTask (with_fuel r more) n u → t ≡ u
 
 -- the n-th content that the program closes, from 1, at some moment
 pub record IsClosed (r : Run) (n : ℕ) (bytes : List ℕ) : Type 0 where
@@ -82,16 +90,19 @@ pub record IsClosed (r : Run) (n : ℕ) (bytes : List ℕ) : Type 0 where
 
 -- a content that is closed at two fuels is the same
 abbrev pub SameClosed : Type 0
-SameClosed = (r : Run) (fuel more n : ℕ) (b c : List ℕ) → IsClosed (with_fuel r fuel) n b → IsClosed (with_fuel r more) n c → b ≡ c
+SameClosed = (r : Run) (fuel more n : ℕ) (b c : List ℕ) → IsClosed (with_fuel r fuel) n b
+    → IsClosed (with_fuel r more) n c → b ≡ c
 
 -- ---- ends
 
 -- an end other than by fuel comes at every greater fuel, with the same world and state
 abbrev pub SameEnd : Type 0
 SameEnd = (r : Run) (fuel more k : ℕ) (q : Question) → fuel ≤ more → q ≢ FuelOut →
-    EndsIn (with_fuel r fuel) k q → EndsIn (with_fuel r more) k q × (seq (with_fuel r more) k ≡ seq (with_fuel r fuel) k)
+    EndsIn (with_fuel r fuel) k q → EndsIn (with_fuel r more) k q
+    × (seq (with_fuel r more) k ≡ seq (with_fuel r fuel) k)
 
 -- two fuels that both end, and not by fuel, end alike
 abbrev pub OneEnd : Type 0
 OneEnd = (r : Run) (fuel more k j : ℕ) (q p : Question) → q ≢ FuelOut → p ≢ FuelOut →
-    EndsIn (with_fuel r fuel) k q → EndsIn (with_fuel r more) j p → seq (with_fuel r fuel) k ≡ seq (with_fuel r more) j
+    EndsIn (with_fuel r fuel) k q → EndsIn (with_fuel r more) j p → seq (with_fuel r fuel) k
+    ≡ seq (with_fuel r more) j

@@ -12,12 +12,15 @@ AreKnown files = (name : List ℕ) → files name ≡ Some Lost → ⊥
 
 -- a use names a task of the run, and there is the value unless the task is lost
 abbrev pub UsesAreOfTasks : Type 0
-UsesAreOfTasks = (r : Run) (k n place : ℕ) (s : State) (next : Answer → Dialogue) → (seq r k).rest ≡ Ask (Use n place) s next →
-    (t : Task) × (task_at (seq r k).world.tasks n ≡ Some t) × ((is_lost t ≡ true) ⊎ ((v : Value) × (output_of (Some t) place ≡ Some v)))
+UsesAreOfTasks = (r : Run) (k n place : ℕ) (s : State) (next : Answer → Dialogue)
+    → (seq r k).rest ≡ Ask (Use n place) s next →
+    (t : Task) × (task_at (seq r k).world.tasks n ≡ Some t)
+    × ((is_lost t ≡ true) ⊎ ((v : Value) × (output_of (Some t) place ≡ Some v)))
 
 -- while no task is lost, no file is
 abbrev pub FilesAreKnown : Type 0
-FilesAreKnown = (r : Run) (k : ℕ) → AreKnown r.files → any_lost (seq r k).world ≡ false → AreKnown (seq r k).world.files
+FilesAreKnown = (r : Run) (k : ℕ) → AreKnown r.files → any_lost (seq r k).world ≡ false
+    → AreKnown (seq r k).world.files
 
 -- a run that is stuck has a lost task
 abbrev pub StuckIsLost : Type 0

@@ -13,7 +13,8 @@ use Rattle.gs_talk.specs.declared.question.Answer.TheVariants.{Went, Val, Bytes,
 use Rattle.gs_talk.specs.Talk.{Given, State, Dialogue, Done, Ask, Stop, Asks, dialogue, talk}
 use Rattle.gs_talk_laws.specs.Numbers.{at_number}
 
--- what stood at the places of each call that went, the task and the place of each use, and how many questions were answered
+-- what stood at the places of each call that went, the task and the place of each use, and how many
+-- questions were answered
 pub record Told : Type 0 where
   pub calls : List (List CallArg)
   pub uses : List (ℕ × ℕ)
@@ -48,7 +49,11 @@ with_use (Fault line fault) uses = uses
 with_use FuelOut uses = uses
 
 abbrev pub with_answer : Question → Answer → Told → Told
-with_answer q a h = record { calls = with_call q a h.calls; uses = with_use q h.uses; count = h.count + 1 }
+with_answer q a h = record {
+  calls = with_call q a h.calls;
+  uses = with_use q h.uses;
+  count = h.count + 1;
+}
 
 abbrev pub told_after : Told → Dialogue → List Answer → Told
 told_after h (Done n s) answers = h
@@ -89,9 +94,11 @@ pub record IsDue (h : Told) (n place : ℕ) : Type 0 where
   pub called : IsCalled h.calls n place
   pub unused : IsIn h.uses n place → ⊥
 
--- each use names a task that was called, at a place where it leaves a number or a string, that was not used before
+-- each use names a task that was called, at a place where it leaves a number or a string, that was
+-- not used before
 abbrev pub UsesAreDue : Type 0
-UsesAreDue = (t : Given) (fuel : ℕ) (answers : List Answer) (n place : ℕ) (s : State) → talk t fuel answers ≡ Asks (Use n place) s → IsDue (told t fuel answers) n place
+UsesAreDue = (t : Given) (fuel : ℕ) (answers : List Answer) (n place : ℕ) (s : State)
+    → talk t fuel answers ≡ Asks (Use n place) s → IsDue (told t fuel answers) n place
 
 -- ---- calls
 
@@ -102,7 +109,8 @@ kind_of (Str s) = kind.Str
 kind_of OutInt = kind.Int
 kind_of OutStr = kind.Str
 
--- what stands at a place is of the parameter's kind, and is left there where the parameter is an output alone and no file
+-- what stands at a place is of the parameter's kind, and is left there where the parameter is an
+-- output alone and no file
 pub record FitsParam (p : Param) (a : CallArg) : Type 0 where
   pub kind : kind_of a ≡ p.kind
   pub left : is_left a ≡ is_out_scalar p
@@ -114,4 +122,6 @@ AreFit (a ∷ args) (p ∷ ps) = FitsParam p a × AreFit args ps
 
 -- what stands at the places of each call fits the operation's parameters
 abbrev pub CallsFit : Type 0
-CallsFit = (t : Given) (fuel : ℕ) (answers : List Answer) (op line : ℕ) (args : List CallArg) (s : State) → talk t fuel answers ≡ Asks (Call op line args) s → AreFit args (params_at t.ops op)
+CallsFit = (t : Given) (fuel : ℕ) (answers : List Answer) (op line : ℕ) (args : List CallArg)
+    (s : State) → talk t fuel answers ≡ Asks (Call op line args) s
+    → AreFit args (params_at t.ops op)

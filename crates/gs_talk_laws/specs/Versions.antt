@@ -34,7 +34,8 @@ abbrev pub latest : (name : List ℕ) → List Written → Version
 latest name ws = latest_from (Original name) name ws
 
 abbrev pub written_at : (n place : ℕ) → Param → CallArg → List Written → List Written
-written_at n place p (File name) more = if writes_file p then record { name = name; version = Out n place } ∷ more else more
+written_at n place p (File name) more = if writes_file p
+    then record { name = name; version = Out n place } ∷ more else more
 written_at n place p (Int v) more = more
 written_at n place p (Str s) more = more
 written_at n place p OutInt more = more
@@ -55,7 +56,11 @@ abbrev pub written_in : List Signature → World → Question → List Written
 written_in ops w (Call op line args) =
     let ps = params_at ops op in
     if_goes (first_refused w.files ps args) (written_by (length w.tasks + 1) 1 ps args)
-written_in ops w (CloseFile name bytes) = record { name = name; version = Main (length w.closed + 1) } ∷ []
+written_in ops w (CloseFile name bytes) = record {
+  name = name;
+  version = Main
+      (length w.closed + 1);
+} ∷ []
 written_in ops w (Use n place) = []
 written_in ops w (OpenFile name mode line) = []
 written_in ops w Barrier = []
@@ -91,7 +96,8 @@ version_value first w (Main k) = closed_as (at_number w.closed k)
 
 -- each file holds what its last version holds
 abbrev pub FilesAreVersions : Type 0
-FilesAreVersions = (r : Run) (k : ℕ) (name : List ℕ) → (seq r k).world.files name ≡ version_value r.files (seq r k).world (latest name (writings r k))
+FilesAreVersions = (r : Run) (k : ℕ) (name : List ℕ) → (seq r k).world.files name
+    ≡ version_value r.files (seq r k).world (latest name (writings r k))
 
 -- ---- each version is someone's
 
@@ -112,14 +118,16 @@ IsStored w name (Main k) = (bytes : List ℕ) × (at_number w.closed k ≡ Some 
 
 -- each writing's version is one that a task left or that the program closed
 abbrev pub WritingsAreStored : Type 0
-WritingsAreStored = (r : Run) (k i : ℕ) (x : Written) → slice_get (writings r k) i ≡ Some x → IsStored (seq r k).world x.name x.version
+WritingsAreStored = (r : Run) (k i : ℕ) (x : Written) → slice_get (writings r k) i ≡ Some x
+    → IsStored (seq r k).world x.name x.version
 
 -- the file's original, or a stored version of it
 abbrev pub IsVersionOf : World → (name : List ℕ) → Version → Type 0
 IsVersionOf w name v = (v ≡ Original name) ⊎ IsStored w name v
 
 abbrev pub LatestIsStored : Type 0
-LatestIsStored = (r : Run) (k : ℕ) (name : List ℕ) → IsVersionOf (seq r k).world name (latest name (writings r k))
+LatestIsStored = (r : Run) (k : ℕ) (name : List ℕ)
+    → IsVersionOf (seq r k).world name (latest name (writings r k))
 
 -- ---- what a task reads
 
@@ -163,11 +171,13 @@ content_by first w None = None
 content_by first w (Some v) = version_value first w v
 
 -- what stands at the places of a task that reads these versions
-abbrev pub all_given_by : (first : Files) → World → List (Option Version) → List Param → List CallArg → Option (List Arg)
+abbrev pub all_given_by : (first : Files) → World → List (Option Version) → List Param
+    → List CallArg → Option (List Arg)
 all_given_by first w [] ps args = Some []
 all_given_by first w (v ∷ vs) [] args = Some []
 all_given_by first w (v ∷ vs) (p ∷ ps) [] = Some []
-all_given_by first w (v ∷ vs) (p ∷ ps) (a ∷ args) = and_all (given (λ name. content_by first w v) p a) (all_given_by first w vs ps args)
+all_given_by first w (v ∷ vs) (p ∷ ps) (a ∷ args) = and_all
+    (given (λ name. content_by first w v) p a) (all_given_by first w vs ps args)
 
 -- an original, what the program closed, or what a task before task n left
 abbrev pub IsBefore : (n : ℕ) → Version → Type 0
@@ -182,8 +192,10 @@ pub record IsRead (w : World) (n : ℕ) (called : List CallArg) (i : ℕ) (v : V
   pub version : IsVersionOf w name v
   pub before : IsBefore n v
 
--- task n stands for a call that fits its operation, and that reads these versions; it takes what they hold, and gives what the law says
-pub record IsTaskOf (r : Run) (w : World) (n : ℕ) (t : Task) (reads : List (Option Version)) : Type 0 where
+-- task n stands for a call that fits its operation, and that reads these versions; it takes what
+-- they hold, and gives what the law says
+pub record IsTaskOf (r : Run) (w : World) (n : ℕ) (t : Task) (reads : List (Option Version)) : Type
+    0 where
   pub params : t.params ≡ params_at r.texts.ops t.op
   pub fit : AreFit t.called t.params
   pub places : length reads ≡ length t.called
@@ -194,15 +206,20 @@ pub record IsTaskOf (r : Run) (w : World) (n : ℕ) (t : Task) (reads : List (Op
 -- what is known of each task
 abbrev pub TasksReadVersions : Type 0
 TasksReadVersions = (r : Run) (k n : ℕ) (t : Task) → task_at (seq r k).world.tasks n ≡ Some t →
-    (reads : List (Option Version)) × (at_number (readings r k) n ≡ Some reads) × IsTaskOf r (seq r k).world n t reads
+    (reads : List (Option Version)) × (at_number (readings r k) n ≡ Some reads)
+    × IsTaskOf r (seq r k).world n t reads
 
 -- ---- what stands, stays
 
 abbrev pub TasksStay : Type 0
-TasksStay = (r : Run) (k more n : ℕ) (t : Task) → k ≤ more → task_at (seq r k).world.tasks n ≡ Some t → task_at (seq r more).world.tasks n ≡ Some t
+TasksStay = (r : Run) (k more n : ℕ) (t : Task) → k ≤ more → task_at (seq r k).world.tasks n
+    ≡ Some t → task_at (seq r more).world.tasks n ≡ Some t
 
 abbrev pub ClosedStay : Type 0
-ClosedStay = (r : Run) (k more n : ℕ) (bytes : List ℕ) → k ≤ more → at_number (seq r k).world.closed n ≡ Some bytes → at_number (seq r more).world.closed n ≡ Some bytes
+ClosedStay = (r : Run) (k more n : ℕ) (bytes : List ℕ) → k ≤ more
+    → at_number (seq r k).world.closed n ≡ Some bytes → at_number (seq r more).world.closed n
+    ≡ Some bytes
 
 abbrev pub ReadingsStay : Type 0
-ReadingsStay = (r : Run) (k more n : ℕ) (reads : List (Option Version)) → k ≤ more → at_number (readings r k) n ≡ Some reads → at_number (readings r more) n ≡ Some reads
+ReadingsStay = (r : Run) (k more n : ℕ) (reads : List (Option Version)) → k ≤ more
+    → at_number (readings r k) n ≡ Some reads → at_number (readings r more) n ≡ Some reads

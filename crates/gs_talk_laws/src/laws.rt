@@ -74,8 +74,8 @@ pub fn files_are_versions()
     ensures latest { LatestIsStored }
 {}
 
-/// Each task takes what the versions hold that it reads, none of them its own or a later task's, and
-/// gives what the law says.
+/// Each task takes what the versions hold that it reads, none of them its own or a later task's,
+/// and gives what the law says.
 pub fn tasks_read_versions()
     ensures { TasksReadVersions }
 {}
