@@ -1,14 +1,14 @@
 -- A text has at most one first fault.
-use Rattle.std.proofs.Common.{◌≡◌, ℕ, zero, suc, ◌+◌, ◌<◌, ◌≤◌, Bool, true, false, List, [], ◌∷◌, ◌++◌, length, refl, sym, ap, subst, ◌∙◌, arith, inl, inr, ◌⊎◌}
+use Rattle.std.proofs.Common.{◌≡◌, ℕ, zero, suc, ◌<◌, ◌≤◌, true, false, List, [], ◌∷◌, ◌++◌, length, refl, sym, ap, subst, ◌∙◌, arith, inl, inr, ◌⊎◌}
 use Rattle.std.specs.List.{list_all}
 use Rattle.std.proofs.lemmas.Bool.{cases_lt}
 use Rattle.gs_types.specs.Name.{IsName}
 use Rattle.gs_idl.specs.Interface.{Signature}
-use Rattle.gs_broker.specs.Text.{may_stand, IsContent, HasWords, Parts, words_of, are_in_form, HasParts, IsSlots, IsRight, are_known, Entry, is_twice, IsLineFault, bad_byte, bad_line, bad_name, bad_slots, unknown_op, twice, too_many, LinesSay, GoesWrong, IsFault, too_long, wrong, empty}
+use Rattle.gs_broker.specs.Text.{may_stand, IsContent, HasWords, Parts, words_of, HasParts, IsSlots, IsRight, are_known, Entry, is_twice, IsLineFault, bad_byte, bad_line, bad_name, bad_slots, unknown_op, twice, too_many, LinesSay, GoesWrong, IsFault, too_long, wrong, empty}
 use Rattle.gs_broker.specs.declared.kind.WorkersKind.{WorkersKind}
 use Rattle.gs_broker.specs.declared.kind.WorkersKind.TheVariants.{TooLong, BadByte, BadLine, BadName, BadSlots, UnknownOp, Twice, TooMany, Empty}
 use Rattle.gs_broker.proofs.Cutting.{content_one, words_stand}
-use Rattle.gs_broker.proofs.OneList.{has_one, same_parts, all_stand, lines_one, stops_there, same_lines}
+use Rattle.gs_broker.proofs.OneList.{has_one, same_parts, lines_one, stops_there, same_lines}
 
 -- ---- the order of the tests of a line
 

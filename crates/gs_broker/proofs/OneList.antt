@@ -15,7 +15,7 @@ use Rattle.gs_broker.proofs.Slots.{slots_one}
 
 -- ---- words and parts
 
-has_one : (line : List ℕ) (a b : List (List ℕ)) → HasWords line a → HasWords line b → a ≡ b
+pub has_one : (line : List ℕ) (a b : List (List ℕ)) → HasWords line a → HasWords line b → a ≡ b
 has_one line a b p q =
     let e = content_one line p.content q.content p.before q.before in
     words_one q.content a b (subst (λ (c : List ℕ). AreWords c a) e p.parted) q.parted
@@ -30,13 +30,13 @@ parts_one : (p q : Parts) → words_of p ≡ words_of q → p ≡ q
 unfolding parts_in
 parts_one p q e = ap parts_in e
 
-same_parts : (line : List ℕ) (p q : Parts) → HasParts line p → HasParts line q → p ≡ q
+pub same_parts : (line : List ℕ) (p q : Parts) → HasParts line p → HasParts line q → p ≡ q
 same_parts line p q a b = parts_one p q (has_one line (words_of p) (words_of q) a.words b.words)
 
 none_parts : (line : List ℕ) (p : Parts) → HasWords line [] → HasParts line p → ⊥
 none_parts line p a b = let e = has_one line [] (words_of p) a b.words in absurd cc
 
-all_stand : (line content : List ℕ) (words : List (List ℕ)) → HasWords line words → IsContent line content → list_all may_stand content ≡ false → ⊥
+pub all_stand : (line content : List ℕ) (words : List (List ℕ)) → HasWords line words → IsContent line content → list_all may_stand content ≡ false → ⊥
 all_stand line content words has is fails =
     let t = words_stand has.content words has.parted in
     let e = ap (list_all may_stand) (content_one line has.content content has.before is) in absurd cc
@@ -75,19 +75,19 @@ line_or_fault ops line a b kind (worker d q m right once few) (too_many p slots 
 
 -- ---- the lines
 
-lines_one : (ops : List Signature) (lines : List (List ℕ)) (a b c : List Entry) → LinesSay ops lines a b → LinesSay ops lines a c → b ≡ c
+pub lines_one : (ops : List Signature) (lines : List (List ℕ)) (a b c : List Entry) → LinesSay ops lines a b → LinesSay ops lines a c → b ≡ c
 lines_one ops lines a b c (no_line d) (no_line e) = refl
 lines_one ops lines a b c (line_more l ls d m e first rest) (line_more l' ls' d' n f first' rest') =
     lines_one ops ls m e f rest (subst (λ (v : List Entry). LinesSay ops ls v f) (line_one ops l d n m first' first) rest')
 
-stops_there : (ops : List Signature) (front rest : List (List ℕ)) (line : List ℕ) (a b c : List Entry) (kind : WorkersKind) → LinesSay ops (front ++ line ∷ rest) a c → LinesSay ops front a b → IsLineFault ops line b kind → ⊥
+pub stops_there : (ops : List Signature) (front rest : List (List ℕ)) (line : List ℕ) (a b c : List Entry) (kind : WorkersKind) → LinesSay ops (front ++ line ∷ rest) a c → LinesSay ops front a b → IsLineFault ops line b kind → ⊥
 stops_there ops [] rest line a b c kind (line_more l ls d m e first more) (no_line f) fault = line_or_fault ops line f m kind first fault
 stops_there ops (x ∷ xs) rest line a b c kind (line_more l ls d m e first more) (line_more l' ls' d' n f first' more') fault =
     stops_there ops xs rest line m b c kind more (subst (λ (v : List Entry). LinesSay ops xs v b) (line_one ops x d n m first' first) more') fault
 
 -- ---- the text
 
-same_lines : (bytes : List ℕ) (a b : List (List ℕ)) → AreLines bytes a → AreLines bytes b → a ≡ b
+pub same_lines : (bytes : List ℕ) (a b : List (List ℕ)) → AreLines bytes a → AreLines bytes b → a ≡ b
 same_lines bytes a b p q = lines_are bytes a p ∙ sym (lines_are bytes b q)
 
 pub says_one : (ops : List Signature) (bytes : List ℕ) (a b : List Entry) → Says ops bytes a → Says ops bytes b → a ≡ b

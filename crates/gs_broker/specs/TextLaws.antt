@@ -1,7 +1,8 @@
 -- Laws of worker lists.
 use Rattle.std.specs.Prelude.{◌≡◌, ℕ, Bool, false, List, Option, Some, None, length, slice_get, option_map, unwrap_or}
 use Rattle.gs_idl.specs.Interface.{Signature}
-use Rattle.gs_broker.specs.Text.{Entry, Says}
+use Rattle.gs_broker.specs.Text.{Entry, Says, IsFault}
+use Rattle.gs_broker.specs.declared.kind.WorkersKind.{WorkersKind}
 use Rattle.gs_broker.specs.Listed.{count_of, slots_of_list, takes_of_list, program_in, entries_in}
 use Rattle.gs_broker.specs.declared.workers.Workers.{Workers}
 
@@ -9,6 +10,11 @@ use Rattle.gs_broker.specs.declared.workers.Workers.{Workers}
 abbrev pub SaysOneList : Type 0
 SaysOneList = (ops : List Signature) (bytes : List ℕ) (a b : List Entry) →
     Says ops bytes a → Says ops bytes b → a ≡ b
+
+-- a text has at most one first fault, on one line and of one kind
+abbrev pub FailsOnce : Type 0
+FailsOnce = (ops : List Signature) (bytes : List ℕ) (n m : ℕ) (k j : WorkersKind) →
+    IsFault ops bytes n k → IsFault ops bytes m j → (n ≡ m) × (k ≡ j)
 
 abbrev pub slots_by : Option Entry → ℕ
 slots_by None = 0

@@ -3,3 +3,4 @@ pub mod Opened
 pub mod Adding
 pub mod Numbering
 pub mod Pushing
+pub mod Places

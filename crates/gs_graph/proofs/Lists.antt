@@ -28,7 +28,7 @@ is_lt a b e = grind (arith, nat_tests)
 pub lt_is : (a b : ℕ) → a < b → nat_lt a b ≡ true
 lt_is a b lt = grind (arith, nat_tests)
 
-split_or : (a b : Bool) → (a || b) ≡ false → (a ≡ false) × (b ≡ false)
+pub split_or : (a b : Bool) → (a || b) ≡ false → (a ≡ false) × (b ≡ false)
 split_or true b e = absurd (cc)
 split_or false b e = (refl, e)
 
@@ -118,7 +118,7 @@ pub record Rises (low high x : ℕ) (xs : List ℕ) : Type 0 where
   pub under : x < high
   pub rest : rises (suc x) high xs ≡ true
 
-rises_parts : (low high x : ℕ) (xs : List ℕ) → rises low high (x ∷ xs) ≡ true → Rises low high x xs
+pub rises_parts : (low high x : ℕ) (xs : List ℕ) → rises low high (x ∷ xs) ≡ true → Rises low high x xs
 rises_parts low high x xs e =
     let a = both (not (nat_lt x low)) (nat_lt x high && rises (suc x) high xs) e in
     let b = both (nat_lt x high) (rises (suc x) high xs) a.1 in

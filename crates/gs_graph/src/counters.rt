@@ -19,8 +19,9 @@ pub(crate) struct Counters {
     // The tasks that have this one as a producer.
     next: Vec<Vec<usize>>,
     // The tasks that have not finished and whose producers are all finished, by rising number: a
-    // look-up by place is then one step. A change moves what stands behind it, 80,000 bytes at
-    // most for the 10,000 tasks of a run; a tree would want memory in `finish`.
+    // look-up by place is then one step, and one by number a binary search. A change moves what
+    // stands behind it, 80,000 bytes at most for the 10,000 tasks of a run; a tree would want
+    // memory in `finish`.
     ready: Vec<usize>,
     alloc: Global,
     ghost done_same: { length done.items ≡ length missing.items },

@@ -25,7 +25,8 @@ pub(crate) fn push_edge(next: &mut Vec<Vec<usize>>, p: usize, n: usize) -> Resul
 pub(crate) fn pop_edge(next: &mut Vec<Vec<usize>>, p: usize)
     requires { p < length next.old.items }
     ensures edges { (q n : ℕ) (xs : List ℕ) →
-        after next.old.items q ≡ (if p == q then xs ++ n ∷ [] else xs) → after next.new.items q ≡ xs }
+        after next.old.items q ≡ (if p == q then xs ++ n ∷ [] else xs)
+        → after next.new.items q ≡ xs }
     ensures len { length next.new.items ≡ length next.old.items }
     ensures capacity { vec_capacity next.old ≤ vec_capacity next.new }
 {

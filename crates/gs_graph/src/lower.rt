@@ -1,6 +1,6 @@
 // A producer has finished.
 ghost use Rattle.std.specs.Prelude.{◌≡◌, ◌≤◌, ◌<◌, ◌+◌, ◌==◌, ◌&&◌, not, nat_eq, ℕ, length, slice_index, true, false, vec_capacity, if◌then◌else◌};
-ghost use Rattle.gs_graph.specs.Numbers.{has, rises, put_in, one_if, count_of};
+ghost use Rattle.gs_graph.specs.Numbers.{has, rises, put_in, one_if, count_of, IsRising};
 ghost use Rattle.gs_graph.specs.Edges.{done_at, done_too, is_due, all_below};
 
 use crate::numbers::put;
@@ -40,7 +40,8 @@ fn is_free(missing: &[usize], done: &[bool], s: usize) -> bool
 }
 
 pub(crate) fn put_if(ready: &mut Vec<usize>, s: usize, due: bool)
-    requires { due ≡ true → length ready.old.items < vec_capacity ready.old }
+    requires rising { IsRising ready.old.items }
+    requires room { due ≡ true → length ready.old.items < vec_capacity ready.old }
     ensures items { ready.new.items ≡ (if due then put_in s ready.old.items else ready.old.items) }
     ensures capacity { vec_capacity ready.old ≤ vec_capacity ready.new }
 {

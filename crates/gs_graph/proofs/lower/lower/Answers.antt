@@ -6,8 +6,11 @@ use Rattle.gs_graph.proofs.Lists.{rises_length, rises_put, put_length}
 use Rattle.gs_graph.proofs.Opened.{lower_listed, not_listed}
 use Rattle.gs_graph.proofs.lower.lower.Goals as goal
 
-pub put_if-requires : goal.put_if-requires
-put_if-requires c = λ due.
+pub put_if-requires-clause-rising : goal.put_if-requires-clause-rising
+put_if-requires-clause-rising c = (length c.args.missing.now.items, c.requires.rising)
+
+pub put_if-requires-clause-room : goal.put_if-requires-clause-room
+put_if-requires-clause-room c = λ due.
     let count = length c.args.missing.now.items in
     let s = c.args.s in
     let xs = c.args.ready.now.items in

@@ -50,6 +50,9 @@ never_done [] k e = refl
 never_done (d ∷ ds) zero e = absurd (omega arith)
 never_done (d ∷ ds) (suc k) e = never_done ds k (omega arith)
 
+pub put_if-requires-clause-rising : goal.put_if-requires-clause-rising
+put_if-requires-clause-rising c = (length c.args.self.now.missing.items, ap (rises 0 (length c.args.self.now.missing.items)) c.reserve-4.ensures.items ∙ c.args.self.now.rising)
+
 pub push_last-requires : goal.push_last-requires
 push_last-requires c =
     let a = c.in_ok-push_edges.ensures.capacity in

@@ -29,6 +29,9 @@ taken count done now missing n xs e listed m = has_without m n xs ∙ elim (eqb_
   | inr other ↦ ap (λ (t : Bool). if t then false else has m xs) other.0 ∙ listed m ∙ sym (ap (λ (b : Bool). nat_lt m count && (not b && nat_eq (missing m) 0)) (e m ∙ ap (λ (t : Bool). if t then true else done m) other.0))
 ]
 
+pub take_out-requires : goal.take_out-requires
+take_out-requires c = (length c.args.self.now.missing.items, c.args.self.now.rising)
+
 pub lower_all-requires-clause-enough : goal.lower_all-requires-clause-enough
 unfolding size_in
 lower_all-requires-clause-enough c = λ m.
