@@ -1,0 +1,11 @@
+use Rattle.gs_main.specs.Shown.{talking}
+use Rattle.gs_main.proofs.Asking.{asks_talk, asks_stand}
+use Rattle.gs_main.proofs.dialogue.Main.ask.Goals as goal
+
+pub returns-clause-talks : goal.returns-clause-talks
+returns-clause-talks c = λ t fuel answers h.
+    asks_talk (talking c.args.self.now).next c.asked.result (talking c.asked.new.self) t fuel answers c.asked.ensures.asks h c.requires
+
+pub returns-clause-stands : goal.returns-clause-stands
+returns-clause-stands c = λ t fuel answers h.
+    asks_stand (talking c.args.self.now).next c.asked.result (talking c.asked.new.self) t fuel answers c.asked.ensures.asks h c.requires
