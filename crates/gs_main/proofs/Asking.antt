@@ -1,5 +1,5 @@
 -- A program after a list of answers.
-use Rattle.std.proofs.Common.{◌≡◌, ℕ, Bool, true, false, refl, sym, ap, ◌∙◌, subst, List, [], ◌∷◌, ◌++◌, map, Result, Ok, Err, None, append-nil, append_assoc}
+use Rattle.std.proofs.Common.{◌≡◌, ℕ, Bool, true, false, refl, sym, ap, ◌∙◌, subst, List, [], ◌∷◌, ◌++◌, map, Result, Ok, Err, None, append-nil, append_assoc, Option, Some}
 use Rattle.std.specs.Prelude.{IfOk, OnOk}
 use Rattle.gs_check.specs.declared.checked.Checked.{Checked}
 use Rattle.gs_check.specs.Passing.{program_in, interface_in}
@@ -17,7 +17,7 @@ use Rattle.gs_main.specs.declared.waits.Waits.{Waits}
 use Rattle.gs_main.specs.declared.waits.Waits.TheVariants as w
 use Rattle.gs_main.specs.declared.run.Run.{Run}
 use Rattle.gs_main.specs.Lasts.{last_question}
-use Rattle.gs_main.specs.Talking.{Talking, Next, Goes, Awaits, Failed, wanted, Asked, AsksNext, IsFree, IsAnsweredBy, answered, StandsFor, TalksOn, given_by, first_talking}
+use Rattle.gs_main.specs.Talking.{Talking, Wanted, FitsWanted, AwaitsAnswerTo, IsFreeAfter, Next, Goes, Awaits, Failed, wanted, Asked, AsksNext, IsFree, IsAnsweredBy, answered, StandsFor, TalksOn, given_by, first_talking}
 use Rattle.gs_main.specs.Machine.{goes}
 use Rattle.gs_main.specs.Seen.{state_of, first_state, IsWaiting, resumed, next_by, next_of, going}
 use Rattle.gs_main.specs.Shown.{unless_failed}
@@ -51,6 +51,35 @@ asks_stand (Goes d) (Err e) new t fuel answers h stands free = tt
 asks_stand (Awaits w next) result new t fuel answers h stands free = absurd free
 asks_stand Failed (Ok q) new t fuel answers h stands free = absurd h
 asks_stand Failed (Err e) new t fuel answers h stands free = tt
+
+pub asks_await : (old : Next) (result : Result Question NoMemory) (new : Talking) → AsksNext old result new → IsFree old → IfOk result (λ q. AwaitsAnswerTo q new.next)
+asks_await (Goes d) (Ok q) new h free = by_next new.next h
+  where
+    by_next : (next : Next) → Asked d q new.state next → AwaitsAnswerTo q next
+    by_next (Goes rest) k = λ a fits. absurd (subst (λ (o : Option Wanted). FitsWanted o a) k.2 fits)
+    by_next (Awaits w next) k = λ a fits. subst (λ (o : Option Wanted). FitsWanted o a) k.1 fits
+    by_next Failed k = absurd k
+asks_await (Goes d) (Err e) new h free = tt
+asks_await (Awaits w next) result new h free = absurd free
+asks_await Failed (Ok q) new h free = absurd h
+asks_await Failed (Err e) new h free = tt
+
+pub asks_last : (old : Next) (result : Result Question NoMemory) (new : Talking) → AsksNext old result new → IsFree old → IfOk result (λ q. IsFreeAfter q new.next)
+asks_last (Goes d) (Ok q) new h free = by_next new.next h
+  where
+    by_next : (next : Next) → Asked d q new.state next → IsFreeAfter q next
+    by_next (Goes rest) k = λ none. tt
+    by_next (Awaits w next) k = λ none. absurd (let e : ◌≡◌ {A = Option Wanted} None (Some w) = sym none ∙ k.1 in cc)
+    by_next Failed k = absurd k
+asks_last (Goes d) (Err e) new h free = tt
+asks_last (Awaits w next) result new h free = absurd free
+asks_last Failed (Ok q) new h free = absurd h
+asks_last Failed (Err e) new h free = tt
+
+pub answered_free : (old : Next) (a : Answer) (new : Next) → IsAnsweredBy old a → new ≡ answered old a → IsFree new
+answered_free (Goes d) a new h e = absurd h
+answered_free (Awaits w next) a new h e = subst (λ (n : Next). IsFree n) (sym e) tt
+answered_free Failed a new h e = absurd h
 
 -- ---- what a machine asks
 

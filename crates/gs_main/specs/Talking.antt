@@ -61,6 +61,11 @@ Fits a_word (Bytes bytes) = ⊥
 Fits a_word Absent = ⊥
 Fits a_word TooLong = ⊥
 
+-- the answer is one to a question that wants this
+abbrev pub FitsWanted : Option Wanted → Answer → Type 0
+FitsWanted None a = ⊥
+FitsWanted (Some w) a = Fits w a
+
 -- ---- how it goes on
 
 -- it goes on as a dialogue; or its question is unanswered, and it goes on by the answer; or it found no memory
@@ -99,6 +104,14 @@ abbrev pub IsAnsweredBy : Next → Answer → Type 0
 IsAnsweredBy (Goes d) a = ⊥
 IsAnsweredBy (Awaits w next) a = Fits w a
 IsAnsweredBy Failed a = ⊥
+
+-- each answer that is one to the question is awaited
+abbrev pub AwaitsAnswerTo : Question → Next → Type 0
+AwaitsAnswerTo q next = (a : Answer) → FitsWanted (wanted q) a → IsAnsweredBy next a
+
+-- after a last question none is unanswered
+abbrev pub IsFreeAfter : Question → Next → Type 0
+IsFreeAfter q next = wanted q ≡ None → IsFree next
 
 -- what goes on as d asks this question in this state, and goes on so; after a last question it stays as it is
 abbrev pub Asked : Dialogue → Question → State → Next → Type 0

@@ -26,7 +26,7 @@ impl Main {
     ghost use Rattle.gs_check.specs.Passing.{program_in, interface_in};
     ghost use Rattle.gs_talk.specs.declared.question.Answer as answer;
     ghost use Rattle.gs_talk.specs.Talk.{Given};
-    ghost use Rattle.gs_main.specs.Talking.{first_talking, given_by, IsFree, IsAnsweredBy, AsksNext, answered, KeepsGiven, StandsFor, TalksOn};
+    ghost use Rattle.gs_main.specs.Talking.{first_talking, given_by, IsFree, IsAnsweredBy, AwaitsAnswerTo, IsFreeAfter, AsksNext, answered, KeepsGiven, StandsFor, TalksOn};
     ghost use Rattle.gs_main.specs.Notes.{notes_of};
     ghost use Rattle.gs_main.specs.Shown.{talking};
 
@@ -43,6 +43,7 @@ impl Main {
             ≡ first_talking idl_name program_name (interface_in checked) (program_in checked) fuel) }
         ensures stands { let t = given_by idl_name program_name (interface_in checked) (program_in checked) in
             IfOk result (λ m. StandsFor (talking m).next t fuel []) }
+        ensures free { IfOk result (λ m. IsFree (talking m).next) }
     {
         let tree = checked.tree();
         let names = names(alloc, &tree.vars)?;
@@ -73,6 +74,10 @@ impl Main {
         requires { IsFree (talking self.old).next }
         ensures asks { AsksNext (talking self.old).next result (talking self.new) }
         ensures kept { KeepsGiven (talking self.old) (talking self.new) }
+
+        // The question's answers are awaited, where it is none of the last.
+        ensures awaits { IfOk result (λ q. AwaitsAnswerTo q (talking self.new).next) }
+        ensures last { IfOk result (λ q. IsFreeAfter q (talking self.new).next) }
 
         // What it stands for decides the question, and stays.
         ensures talks { (t : Given) (fuel : ℕ) (answers : List answer.Answer) →
@@ -113,6 +118,7 @@ impl Main {
     pub fn answer(&mut self, a: Answer)
         requires { IsAnsweredBy (talking self.old).next a }
         ensures goes { (talking self.new).next ≡ answered (talking self.old).next a }
+        ensures free { IsFree (talking self.new).next }
         ensures kept { KeepsGiven (talking self.old) (talking self.new) }
         ensures stands { (t : Given) (fuel : ℕ) (answers : List answer.Answer) →
             StandsFor (talking self.old).next t fuel answers →

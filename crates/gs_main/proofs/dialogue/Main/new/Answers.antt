@@ -2,7 +2,7 @@ use Rattle.std.proofs.Common.{List, [], map, refl, sym, ap, ◌∙◌, subst}
 use Rattle.gs_check.specs.Passing.{program_in, interface_in}
 use Rattle.gs_tree.specs.declared.tree.Var.{Var}
 use Rattle.gs_tree.specs.View.{var_of, program_of}
-use Rattle.gs_main.specs.Talking.{Talking, Next, StandsFor, given_by}
+use Rattle.gs_main.specs.Talking.{Talking, Next, IsFree, StandsFor, given_by}
 use Rattle.gs_main.specs.Seen.{first_state}
 use Rattle.gs_main.specs.Shown.{talking}
 use Rattle.gs_main.proofs.Asking.{begins}
@@ -20,3 +20,6 @@ pub returns-clause-stands : goal.returns-clause-stands
 returns-clause-stands c =
     let t = given_by c.args.idl_name c.args.program_name (interface_in c.args.checked) (program_in c.args.checked) in
     subst (λ (n : Next). StandsFor n t c.args.fuel []) (sym (ap (λ (m : Talking). m.next) (returns-clause-begins c))) (λ more. refl)
+
+pub returns-clause-free : goal.returns-clause-free
+returns-clause-free c = subst (λ (n : Next). IsFree n) (sym (ap (λ (m : Talking). m.next) (returns-clause-begins c))) tt
