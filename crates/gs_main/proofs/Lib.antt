@@ -1,0 +1,12 @@
+pub mod Ending
+pub mod Leaving
+pub mod Within
+pub mod Meaning
+pub mod Moving
+pub mod Passing
+pub mod Doing
+pub mod Settling
+pub mod Faults
+pub mod Replying
+pub mod Asking
+pub mod Noting

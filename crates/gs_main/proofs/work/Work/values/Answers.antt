@@ -1,0 +1,11 @@
+use Rattle.std.proofs.Common.{refl}
+use Rattle.gs_talk.specs.View.{all_placed_of}
+use Rattle.gs_main.specs.Seen.{state_of}
+use Rattle.gs_main.proofs.Doing.{has_values, values_meet}
+use Rattle.gs_main.proofs.work.Work.values.Goals as goal
+
+pub returns-in-Ok : goal.returns-in-Ok
+returns-in-Ok c = (has_values (all_placed_of c.args.es.now) c.args.line (state_of c.args.self.now) c.deref.result.now c.in-Ok.vs.items c.deref.ensures.value c.in-Ok.ensures, refl)
+
+pub returns-in-Err : goal.returns-in-Err
+returns-in-Err c = values_meet (all_placed_of c.args.es.now) c.args.line c.args.self.now c.deref.result.now c.in-Err.e c.trouble.result c.trouble.new.self c.deref.ensures.value c.in-Err.ensures c.trouble.ensures

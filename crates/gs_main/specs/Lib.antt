@@ -1,0 +1,11 @@
+pub mod Talking
+pub mod Notes
+pub mod Meanings
+pub mod Machine
+pub mod Short
+pub mod Lasts
+pub mod CallAt
+pub mod Seen
+pub mod Parts
+pub mod Places
+pub mod Shown
