@@ -15,3 +15,6 @@ pub use err::StoreErr;
 pub use gs_entries::{Entry, GateNote, Stage, Texts};
 pub use names::{main_file, out_file, version_file};
 pub use store::Store;
+
+#[cfg(test)]
+mod tests;
