@@ -1,0 +1,9 @@
+pub mod Apart
+pub mod Causes
+pub mod Keeps
+pub mod Loading
+pub mod Names
+pub mod Spans
+pub mod State
+pub mod Told
+pub mod Versions
