@@ -1,0 +1,10 @@
+pub mod Answering
+pub mod Calling
+pub mod Changes
+pub mod Fitting
+pub mod Keeping
+pub mod Names
+pub mod Placing
+pub mod Playing
+pub mod Turning
+pub mod Written
