@@ -7,4 +7,4 @@ use Rattle.gs_idl.specs.declared.token.IdlKind.{IdlKind}
 abbrev pub OneFault : Type 0
 OneFault =
     (text : List ℕ) (line other : ℕ) (kind others : IdlKind) → IsFault text line kind
-        → IsFault text other others → (line ≡ other) × (kind ≡ others)
+    → IsFault text other others → (line ≡ other) × (kind ≡ others)
