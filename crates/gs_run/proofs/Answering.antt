@@ -23,3 +23,15 @@ bad_text_line r w0 w1 w2 w3 front name name_is colon line line_is gap kind kind_
   where
     flat : (w0 front name colon line gap kind end : List ℕ) → ((w0 ++ (front ++ (name ++ colon))) ++ (line ++ (gap ++ kind))) ++ end ≡ w0 ++ (front ++ (name ++ (colon ++ (line ++ (gap ++ (kind ++ end))))))
     flat w0 front name colon line gap kind end = simp (append_assoc {A = ℕ}) refl
+
+-- the line of a program's fault, in its three pieces
+pub fault_line : (r : Result Unit SinkFailed) (w0 w1 w2 w3 front line line_is gap kind kind_is end : List ℕ) → line ≡ line_is → kind ≡ kind_is → w1 ≡ w0 ++ front → w2 ≡ w1 ++ (line ++ (gap ++ kind))
+    → OnOk r (w3 ≡ w2 ++ end) → OnOk r (w3 ≡ w0 ++ (front ++ (line_is ++ (gap ++ (kind_is ++ end)))))
+fault_line r w0 w1 w2 w3 front line line_is gap kind kind_is end same_line same_kind one two = on_ok_more r _ _ (λ three.
+    let whole : List ℕ → List ℕ → List ℕ = λ (l k : List ℕ). ((w0 ++ front) ++ (l ++ (gap ++ k))) ++ end in
+    three ∙ ap (λ (x : List ℕ). x ++ end) (two ∙ ap (λ (x : List ℕ). x ++ (line ++ (gap ++ kind))) one)
+    ∙ ap (λ (l : List ℕ). whole l kind) same_line ∙ ap (λ (k : List ℕ). whole line_is k) same_kind
+    ∙ flat w0 front line_is gap kind_is end)
+  where
+    flat : (w0 front line gap kind end : List ℕ) → ((w0 ++ front) ++ (line ++ (gap ++ kind))) ++ end ≡ w0 ++ (front ++ (line ++ (gap ++ (kind ++ end))))
+    flat w0 front line gap kind end = simp (append_assoc {A = ℕ}) refl

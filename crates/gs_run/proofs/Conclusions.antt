@@ -1,228 +1,305 @@
 -- What a call did, by where it stopped.
-use Rattle.std.proofs.Common.{◌≡◌, ◌⊎◌, ℕ, zero, suc, ◌≤◌, List, [], ◌∷◌, ◌++◌, length, Option, Some, None, IsSome, Result, Ok, Err, refl, sym, ◌∙◌, ap, subst, inl, inr, arith}
+use Rattle.std.proofs.Common.{◌≡◌, ◌⊎◌, ℕ, ◌+◌, ◌≤◌, List, [], ◌∷◌, ◌++◌, length, Option, Some, None, Result, Ok, Err, refl, sym, ◌∙◌, ap, subst, inl, inr, arith}
+use Rattle.std.specs.Prelude.{option_map}
 use Rattle.gs_types.specs.Counts.{Rises}
 use Rattle.gs_types.specs.Job.{Meaning}
 use Rattle.gs_types.specs.History.{History}
+use Rattle.gs_types.specs.declared.limits.TheConstants.{FUEL_DEFAULT}
 use Rattle.gs_disk.specs.Folder.{Folder, DiskState}
-use Rattle.gs_form.specs.declared.program.Step.{Step}
+use Rattle.gs_idl.specs.Interface.{Interface}
+use Rattle.gs_tree.specs.Program.{Program}
 use Rattle.gs_form.specs.declared.worker.Worker.{Worker}
-use Rattle.gs_run.specs.Calls.{Leads, Runs, failure_in}
-use Rattle.gs_run.specs.Carried.{Backs, Grew}
-use Rattle.gs_run.specs.Files.{over, content_of}
+use Rattle.gs_talk.specs.declared.question.Question.{Question}
+use Rattle.gs_talk.specs.declared.question.Question.TheVariants as q
+use Rattle.gs_talk.specs.Talk.{dialogue}
+use Rattle.gs_talk.specs.Seq.{Known, Run, seq, last_of, EndsIn}
+use Rattle.gs_talk_laws.proofs.Ends.{ends_stay}
+use Rattle.gs_main.specs.Talking.{Talking, Goes, first_talking}
+use Rattle.gs_serial.specs.Files.{over, changed_files}
+use Rattle.gs_serial.specs.Run.{TurnEnds, PlayTold, RanOut, RanUntil, Begins, run_of}
+use Rattle.gs_serial.specs.declared.changed.Changed.{Changed}
+use Rattle.gs_serial.specs.declared.play.Halt.{Halt}
+use Rattle.gs_serial.specs.declared.play.Halt.TheVariants as halt
+use Rattle.gs_run.specs.Asked.{Wish, Asks, a_run, a_check, nothing}
+use Rattle.gs_run.specs.Did.{Did}
+use Rattle.gs_run.specs.Words.{IsRun, IsCheck}
+use Rattle.gs_run.specs.Checking.{RanCheck}
+use Rattle.gs_run.specs.Handing.{HandEnds, HandPut, HandWrote, handed_as, halted_as}
 use Rattle.gs_run.specs.Judging.{JudgeEnds, JudgeTold}
-use Rattle.gs_run.specs.Ran.{SomeRun, Cause, IsServed, Judged, Left, OthersStay, Happened, Done, DoneAt, Ran}
-use Rattle.gs_run.specs.Reading.{Keeps, WrittenBefore}
-use Rattle.gs_run.specs.Served.{Served, FirstAbsent, Refused, wrong, no_calls, no_worker}
+use Rattle.gs_run.specs.Ran.{run_in, IsUntouched, Ended, OthersStay, Ran, IsStatusOf}
+use Rattle.gs_run.specs.Served.{Served, FirstAbsent, Refused, wrong, no_worker}
+use Rattle.gs_run.specs.Showing.{stop_of}
 use Rattle.gs_run.specs.Stop.{status_of}
-use Rattle.gs_run.specs.Words.{IsRun, IsUsage}
-use Rattle.std.specs.Prelude.{codes}
+use Rattle.gs_run.specs.declared.handing.Unhanded.{Unhanded}
+use Rattle.gs_run.specs.declared.handing.Unhanded.TheVariants as unhanded
 use Rattle.gs_run.specs.declared.judge.Plan.{Plan}
-use Rattle.gs_run.specs.declared.stop.Stop.{Stop}
-use Rattle.gs_run.specs.declared.stop.Stop.TheVariants.{Usage, NoText, BadText, Lost, Disk, Sink, Memory}
 use Rattle.gs_run.specs.declared.kinds.TextKind.{TextKind}
-use Rattle.gs_run.proofs.Histories.{runs_fine}
-use Rattle.gs_run.proofs.Verdicts.{not_wrong}
-use Rattle.gs_run.proofs.Wording.{no_usage}
-
-nothing_happened : (tells : History → Type 0) (past : History) (answer : Result Unit Stop) → failure_in [] ≡ Rattle.gs_run.specs.Ran.lost_in answer → Rattle.gs_run.specs.Ran.IsQuiet answer [] → tells past → Happened tells past answer
-nothing_happened tells past answer failure quiet told = record { events = []; told = told; failure = failure; quiet = quiet }
+use Rattle.gs_run.specs.declared.refusal.Refusal.{Refusal}
+use Rattle.gs_run.specs.declared.refusal.Refusal.TheVariants.{NoText, BadText, Disk, Memory}
+use Rattle.gs_run.specs.declared.stop.Stop.{Stop}
+use Rattle.gs_run.specs.declared.stop.Stop.TheVariants as stop
+use Rattle.gs_run.proofs.Wording.{asks_run, asks_check}
+use Rattle.gs_run.proofs.Verdicts.{not_wrong, one_interface, one_tree}
 
 stays : (old new : Folder) → new ≡ old → (x : List ℕ) → new x ≡ old x
 stays old new same x = ap (λ (f : Folder). f x) same
 
--- the words were refused
-pub ran_usage : (told : Type 0) (s : DiskState) (law : Meaning) (tells : History → Type 0) (faults : ℕ) (words : List (List ℕ)) (at : ℕ) → IsUsage words at → Ran told s s law tells tells faults faults words (Err (Usage at))
-ran_usage told s law tells faults words at usage = record {
-  cause = usage;
+more_rises : (old mid new : ℕ) → old ≤ mid → Rises mid new → Rises old new
+more_rises old mid new le r = omega arith
+
+-- ---- the texts weren't judged, or were refused
+
+pub ran_refused : (told wrote : Type 0) (old new : DiskState) (law : Meaning) (tells : History → Type 0) (link out : ℕ) (written idl program workers : List ℕ) (r : Refusal)
+    → JudgeEnds old.faults new.faults (Err r) → (told → JudgeTold old.folder idl program workers (Err r)) → (told → new.folder ≡ old.folder)
+    → Ran told wrote old new law tells tells link link out out written written idl program workers (Err (stop_of r))
+ran_refused told wrote old new law tells link out written idl program workers (NoText name) ends is same = record {
+  cause = tt;
+  judged = is;
+  left = λ t past h. stays old.folder new.folder (same t);
+  written = λ h. refl;
+  happened = λ t past h. h;
+}
+ran_refused told wrote old new law tells link out written idl program workers (BadText name line kind) ends is same = record {
+  cause = tt;
+  judged = is;
+  left = λ t past h. stays old.folder new.folder (same t);
+  written = λ h. refl;
+  happened = λ t past h. h;
+}
+ran_refused told wrote old new law tells link out written idl program workers Disk ends is same = record {
+  cause = ends;
   judged = λ t. tt;
-  left = λ t x. refl;
-  happened = λ past h. nothing_happened tells past (Err (Usage at)) refl refl h;
-  done = λ t past h. tt;
+  left = λ t past h x untouched. stays old.folder new.folder (same t) x;
+  written = λ h. refl;
+  happened = λ t past h. inl h;
 }
-
--- the texts were refused, or reading them failed
-pub ran_judged : (told : Type 0) (old new : DiskState) (law : Meaning) (tells : History → Type 0) (faults : ℕ) (words : List (List ℕ)) (i p w : List ℕ) (stop : Stop) → IsRun words i p w → JudgeEnds old.faults new.faults (Err stop) → (told → JudgeTold old.folder i p w (Err stop)) → (told → new.folder ≡ old.folder)
-    → Ran told old new law tells tells faults faults words (Err stop)
-ran_judged told old new law tells faults words i p w (Usage at) run ends judged same = absurd ends
-ran_judged told old new law tells faults words i p w (Lost n) run ends judged same = absurd ends
-ran_judged told old new law tells faults words i p w Sink run ends judged same = absurd ends
-ran_judged told old new law tells faults words i p w (NoText name) run ends judged same = record {
-  cause = (i, p, w, run, tt);
-  judged = λ t. (i, p, w, run, judged t);
-  left = λ t. stays old.folder new.folder (same t);
-  happened = λ past h. nothing_happened tells past (Err (NoText name)) refl refl h;
-  done = λ t past h. tt;
-}
-ran_judged told old new law tells faults words i p w (BadText name line kind) run ends judged same = record {
-  cause = (i, p, w, run, tt);
-  judged = λ t. (i, p, w, run, judged t);
-  left = λ t. stays old.folder new.folder (same t);
-  happened = λ past h. nothing_happened tells past (Err (BadText name line kind)) refl refl h;
-  done = λ t past h. tt;
-}
-ran_judged told old new law tells faults words i p w Disk run ends judged same = record {
-  cause = ((i, p, w, run, tt), ends);
+ran_refused told wrote old new law tells link out written idl program workers Memory ends is same = record {
+  cause = tt;
   judged = λ t. tt;
-  left = λ t x never. stays old.folder new.folder (same t) x;
-  happened = λ past h. nothing_happened tells past (Err Disk) refl tt h;
-  done = λ t past h. tt;
+  left = λ t past h x untouched. stays old.folder new.folder (same t) x;
+  written = λ h. refl;
+  happened = λ t past h. inl h;
 }
-ran_judged told old new law tells faults words i p w Memory run ends judged same = record {
-  cause = (i, p, w, run, tt);
+
+-- memory was wanting for the program's beginning
+pub ran_unbegun : (told wrote : Type 0) (old new : DiskState) (law : Meaning) (tells : History → Type 0) (link out : ℕ) (written idl program workers : List ℕ)
+    → (told → new.folder ≡ old.folder)
+    → Ran told wrote old new law tells tells link link out out written written idl program workers (Err stop.Memory)
+ran_unbegun told wrote old new law tells link out written idl program workers same = record {
+  cause = tt;
   judged = λ t. tt;
-  left = λ t x never. stays old.folder new.folder (same t) x;
-  happened = λ past h. nothing_happened tells past (Err Memory) refl tt h;
-  done = λ t past h. tt;
+  left = λ t past h x untouched. stays old.folder new.folder (same t) x;
+  written = λ h. refl;
+  happened = λ t past h. inl h;
 }
 
--- a task was lost
-pub ran_lost : (told : Type 0) (old new : DiskState) (law : Meaning) (tells_old tells_new : History → Type 0) (link_old link_new : ℕ) (words : List (List ℕ)) (i p w : List ℕ) (plan : Plan) (n : ℕ) → IsRun words i p w → (told → JudgeTold old.folder i p w (Ok plan)) → (told → new.folder ≡ old.folder)
-    → Rises link_old link_new → ((past : History) → tells_old past → Grew tells_new past (Some n)) → Ran told old new law tells_old tells_new link_old link_new words (Err (Lost n))
-ran_lost told old new law tells_old tells_new link_old link_new words i p w plan n run judged same rises grew = record {
-  cause = ((i, p, w, run, tt), rises);
-  judged = λ t. (i, p, w, run, (plan.steps, plan.worker, (judged t).0, tt));
-  left = λ t. stays old.folder new.folder (same t);
-  happened = λ past h. let g = grew past h in record { events = g.0; told = g.2; failure = g.1; quiet = tt };
-  done = λ t past h. tt;
-}
+-- ---- the program wasn't carried out to its end
 
--- memory was wanting while the calls were carried out
-pub ran_memory : (told : Type 0) (old new : DiskState) (law : Meaning) (tells_old tells_new : History → Type 0) (link_old link_new : ℕ) (words : List (List ℕ)) (i p w : List ℕ) → IsRun words i p w → (told → new.folder ≡ old.folder) → ((past : History) → tells_old past → Grew tells_new past None)
-    → Ran told old new law tells_old tells_new link_old link_new words (Err Memory)
-ran_memory told old new law tells_old tells_new link_old link_new words i p w run same grew = record {
-  cause = (i, p, w, run, tt);
+pub ran_halted : (told wrote : Type 0) (old mid new : DiskState) (law : Meaning) (tells_old tells_new : History → Type 0) (link_old link_new out : ℕ) (written idl program workers : List ℕ) (i : Interface) (p : Program) (worker : Worker) (text : List ℕ) (h : Halt)
+    → (told → Served old.folder idl program workers i p worker) → old.faults ≤ mid.faults
+    → TurnEnds {T = Changed} mid.faults new.faults link_old link_new (Err h)
+    → (told → new.folder ≡ old.folder)
+    → (told → (past : History) → tells_old past → PlayTold worker.program (run_in idl program i p law old.folder) old.folder text tells_new past (Err h))
+    → Ran told wrote old new law tells_old tells_new link_old link_new out out written written idl program workers (Err (halted_as h))
+ran_halted told wrote old mid new law tells_old tells_new link_old link_new out written idl program workers i p worker text (halt.Fault line kind) served le ends same is = record {
+  cause = tt;
+  judged = λ t. (i, p, worker, served t, tt);
+  left = λ t past h. stays old.folder new.folder (same t);
+  written = λ h. refl;
+  happened = λ t past h. (i, p, worker, served t, is t past h);
+}
+ran_halted told wrote old mid new law tells_old tells_new link_old link_new out written idl program workers i p worker text halt.FuelOut served le ends same is = record {
+  cause = refl;
+  judged = λ t. (i, p, worker, served t, tt);
+  left = λ t past h. stays old.folder new.folder (same t);
+  written = λ h. refl;
+  happened = λ t past h. (i, p, worker, served t, is t past h);
+}
+ran_halted told wrote old mid new law tells_old tells_new link_old link_new out written idl program workers i p worker text (halt.Lost n) served le ends same is = record {
+  cause = ends;
+  judged = λ t. (i, p, worker, served t, tt);
+  left = λ t past h. stays old.folder new.folder (same t);
+  written = λ h. refl;
+  happened = λ t past h. (i, p, worker, served t, is t past h);
+}
+ran_halted told wrote old mid new law tells_old tells_new link_old link_new out written idl program workers i p worker text halt.Disk served le ends same is = record {
+  cause = more_rises old.faults mid.faults new.faults le ends;
   judged = λ t. tt;
-  left = λ t x never. stays old.folder new.folder (same t) x;
-  happened = λ past h. let g = grew past h in record { events = g.0; told = g.2; failure = g.1; quiet = tt };
-  done = λ t past h. tt;
+  left = λ t past h x untouched. stays old.folder new.folder (same t) x;
+  written = λ h. refl;
+  happened = λ t past h. inr (i, p, worker, served t, is t past h);
 }
-
-abbrev pub CarriedAll : Meaning → Plan → Folder → (History → Type 0) → (History → Type 0) → Type 0
-CarriedAll law plan changed tells_old tells_new =
-    (past : History) → tells_old past → (first : Folder) → Backs (content_of plan.originals.map) first → (h : History) × Runs law plan.worker.program plan.steps (length plan.steps) first (over changed first) h × tells_new (h ++ past)
-
-backs_self : (f : Folder) → Backs f f
-backs_self f = record { each = λ x bytes e. e }
-
-all_fine : (law : Meaning) (plan : Plan) (changed : Folder) (tells_old tells_new : History → Type 0) (answer : Result Unit Stop) → None ≡ Rattle.gs_run.specs.Ran.lost_in answer → ((h : History) → Rattle.gs_run.specs.Ran.IsQuiet answer h) → CarriedAll law plan changed tells_old tells_new
-    → (past : History) → tells_old past → Happened tells_new past answer
-all_fine law plan changed tells_old tells_new answer none quiet carried past h =
-    let r = carried past h (content_of plan.originals.map) (backs_self (content_of plan.originals.map)) in
-    record { events = r.0; told = r.2; failure = runs_fine law plan.worker.program plan.steps (length plan.steps) _ _ r.0 r.1 ∙ none; quiet = quiet r.0 }
-
-not_changed : (o : Option (List ℕ)) → (IsSome o → ⊥) → o ≡ None
-not_changed None never = refl
-not_changed (Some b) never = absurd (never refl)
-
-others_stay : (words : List (List ℕ)) (old mid new changed : Folder) (i p w : List ℕ) (steps : List Step) (worker : Worker) → IsRun words i p w → Served old i p w steps worker → ((x : List ℕ) → IsSome (changed x) → WrittenBefore steps (length steps) x) → mid ≡ old
-    → ((x : List ℕ) → changed x ≡ None → new x ≡ mid x) → OthersStay words old new
-others_stay words old mid new changed i p w steps worker run served only same others x never =
-    others x (not_changed (changed x) (λ s. never (i, p, w, run, (steps, worker, served, only x s)))) ∙ ap (λ (f : Folder). f x) same
-
--- writing the files failed
-pub ran_disk : (told : Type 0) (old mid new : DiskState) (law : Meaning) (tells_old tells_new : History → Type 0) (link_old link_new : ℕ) (words : List (List ℕ)) (i p w : List ℕ) (plan : Plan) (changed : Folder) → IsRun words i p w → (told → JudgeTold old.folder i p w (Ok plan)) → (told → mid.folder ≡ old.folder)
-    → ((x : List ℕ) → IsSome (changed x) → WrittenBefore plan.steps (length plan.steps) x) → CarriedAll law plan changed tells_old tells_new → (told → (x : List ℕ) → changed x ≡ None → new.folder x ≡ mid.folder x) → old.faults ≤ mid.faults → Rises mid.faults new.faults
-    → Ran told old new law tells_old tells_new link_old link_new words (Err Disk)
-ran_disk told old mid new law tells_old tells_new link_old link_new words i p w plan changed run judged same only carried others le rises = record {
-  cause = ((i, p, w, run, tt), omega (arith, le, rises));
+ran_halted told wrote old mid new law tells_old tells_new link_old link_new out written idl program workers i p worker text halt.Memory served le ends same is = record {
+  cause = tt;
   judged = λ t. tt;
-  left = λ t. others_stay words old.folder mid.folder new.folder changed i p w plan.steps plan.worker run (judged t).0 only (same t) (others t);
-  happened = all_fine law plan changed tells_old tells_new (Err Disk) refl (λ h. tt) carried;
-  done = λ t past h. tt;
+  left = λ t past h x untouched. stays old.folder new.folder (same t) x;
+  written = λ h. refl;
+  happened = λ t past h. inr (i, p, worker, served t, is t past h);
 }
 
-pub ran_wanting : (told : Type 0) (old mid new : DiskState) (law : Meaning) (tells_old tells_new : History → Type 0) (link_old link_new : ℕ) (words : List (List ℕ)) (i p w : List ℕ) (plan : Plan) (changed : Folder) → IsRun words i p w → (told → JudgeTold old.folder i p w (Ok plan)) → (told → mid.folder ≡ old.folder)
-    → ((x : List ℕ) → IsSome (changed x) → WrittenBefore plan.steps (length plan.steps) x) → CarriedAll law plan changed tells_old tells_new → (told → (x : List ℕ) → changed x ≡ None → new.folder x ≡ mid.folder x)
-    → Ran told old new law tells_old tells_new link_old link_new words (Err Memory)
-ran_wanting told old mid new law tells_old tells_new link_old link_new words i p w plan changed run judged same only carried others = record {
-  cause = (i, p, w, run, tt);
+-- ---- the program ended
+
+others_stay : (law : Meaning) (idl program workers : List ℕ) (i : Interface) (p : Program) (worker : Worker) (old late new changed : Folder) (text : List ℕ) (tells : History → Type 0) (past : History)
+    → Served old idl program workers i p worker → RanOut worker.program (run_in idl program i p law old) old changed text tells past
+    → late ≡ old → ((x : List ℕ) → changed x ≡ None → new x ≡ late x) → OthersStay law idl program workers old new
+others_stay law idl program workers i p worker old late new changed text tells past served out same others x untouched =
+    others x (out.only x (untouched i p worker served out.moment)) ∙ stays old late same x
+
+ended : (program : List ℕ) (r : Run) (old late new changed : Folder) (text : List ℕ) (tells : History → Type 0) (past : History)
+    → RanOut program r old changed text tells past → late ≡ old → ((x : List ℕ) → new x ≡ over changed late x) → Ended program r new text tells past
+ended program r old late new changed text tells past out same put = record {
+  moment = out.moment;
+  state = out.state;
+  rest = out.rest;
+  ends = out.ends;
+  files = λ x. out.files.each x ∙ ap (λ (o : Option (List ℕ)). option_map Known o) (sym (put x ∙ ap (λ (f : Folder). over changed f x) same));
+  text_is = out.text_is;
+  told = out.told;
+}
+
+until : (program : List ℕ) (r : Run) (old changed : Folder) (text : List ℕ) (tells : History → Type 0) (past : History) → RanOut program r old changed text tells past → RanUntil program r tells past
+until program r old changed text tells past out = (out.moment, [], inl refl, out.told)
+
+pub ran_handed : (told wrote : Type 0) (old late new : DiskState) (law : Meaning) (tells_old tells_new : History → Type 0) (link_old link_new out_old out_new : ℕ) (written_old written_new idl program workers : List ℕ) (i : Interface) (p : Program) (worker : Worker) (changed : Folder) (text : List ℕ) (answer : Result Unit Unhanded)
+    → (told → Served old.folder idl program workers i p worker) → old.faults ≤ late.faults
+    → (told → late.folder ≡ old.folder)
+    → (told → (past : History) → tells_old past → RanOut worker.program (run_in idl program i p law old.folder) old.folder changed text tells_new past)
+    → HandEnds late.faults new.faults out_old out_new answer
+    → (told → HandPut changed late.folder new.folder answer)
+    → (told → (x : List ℕ) → changed x ≡ None → new.folder x ≡ late.folder x)
+    → (wrote → HandWrote text written_old written_new answer)
+    → Ran told wrote old new law tells_old tells_new link_old link_new out_old out_new written_old written_new idl program workers (handed_as answer)
+ran_handed told wrote old late new law tells_old tells_new link_old link_new out_old out_new written_old written_new idl program workers i p worker changed text (Ok done) served le same is ends put others wrote_it = record {
+  cause = tt;
+  judged = λ t. (i, p, worker, served t, tt);
+  left = λ t past h. others_stay law idl program workers i p worker old.folder late.folder new.folder changed text tells_new past (served t) (is t past h) (same t) (others t);
+  written = λ h. (text, wrote_it h);
+  happened = λ t past h. (i, p, worker, served t, (text, ended worker.program (run_in idl program i p law old.folder) old.folder late.folder new.folder changed text tells_new past (is t past h) (same t) (put t), wrote_it));
+}
+ran_handed told wrote old late new law tells_old tells_new link_old link_new out_old out_new written_old written_new idl program workers i p worker changed text (Err unhanded.Disk) served le same is ends put others wrote_it = record {
+  cause = more_rises old.faults late.faults new.faults le ends;
   judged = λ t. tt;
-  left = λ t. others_stay words old.folder mid.folder new.folder changed i p w plan.steps plan.worker run (judged t).0 only (same t) (others t);
-  happened = all_fine law plan changed tells_old tells_new (Err Memory) refl (λ h. tt) carried;
-  done = λ t past h. tt;
+  left = λ t past h. others_stay law idl program workers i p worker old.folder late.folder new.folder changed text tells_new past (served t) (is t past h) (same t) (others t);
+  written = wrote_it;
+  happened = λ t past h. inr (i, p, worker, served t, until worker.program (run_in idl program i p law old.folder) old.folder changed text tells_new past (is t past h));
+}
+ran_handed told wrote old late new law tells_old tells_new link_old link_new out_old out_new written_old written_new idl program workers i p worker changed text (Err unhanded.Sink) served le same is ends put others wrote_it = record {
+  cause = ends;
+  judged = λ t. (i, p, worker, served t, tt);
+  left = λ t past h. others_stay law idl program workers i p worker old.folder late.folder new.folder changed text tells_new past (served t) (is t past h) (same t) (others t);
+  written = λ h. (text, (wrote_it h).0, (wrote_it h).2);
+  happened = λ t past h. (i, p, worker, served t, (text, ended worker.program (run_in idl program i p law old.folder) old.folder late.folder new.folder changed text tells_new past (is t past h) (same t) (put t), wrote_it));
+}
+ran_handed told wrote old late new law tells_old tells_new link_old link_new out_old out_new written_old written_new idl program workers i p worker changed text (Err unhanded.Memory) served le same is ends put others wrote_it = record {
+  cause = tt;
+  judged = λ t. tt;
+  left = λ t past h. others_stay law idl program workers i p worker old.folder late.folder new.folder changed text tells_new past (served t) (is t past h) (same t) (others t);
+  written = wrote_it;
+  happened = λ t past h. inr (i, p, worker, served t, until worker.program (run_in idl program i p law old.folder) old.folder changed text tells_new past (is t past h));
 }
 
--- calls that were carried out lead to their folder
-leads : (law : Meaning) (program : List ℕ) (steps : List Step) (k : ℕ) (before after : Folder) (h : History) → Runs law program steps k before after h → Leads law steps k before after
-leads law program steps zero before after h r = r.0
-leads law program steps (suc k) before after h r = (r.0, leads law program steps k before r.0 r.1 r.2, (r.3.0, r.3.1, r.3.2.0))
+-- ---- a run that ends, and no fault
 
-backs_kept : (files folder : Folder) → Keeps files folder → Backs files folder
-backs_kept files folder keeps = record { each = λ x bytes e. (keeps.each x bytes e).0 }
+some_is : (a b : Question) → Some a ≡ Some b → a ≡ b
+some_is a b e = cc
 
--- all was done
-pub ran_done : (told : Type 0) (old mid new : DiskState) (law : Meaning) (tells_old tells_new : History → Type 0) (link_old link_new : ℕ) (words : List (List ℕ)) (i p w : List ℕ) (plan : Plan) (changed : Folder) → IsRun words i p w → (told → JudgeTold old.folder i p w (Ok plan)) → (told → mid.folder ≡ old.folder)
-    → ((x : List ℕ) → IsSome (changed x) → WrittenBefore plan.steps (length plan.steps) x) → CarriedAll law plan changed tells_old tells_new → (told → (x : List ℕ) → changed x ≡ None → new.folder x ≡ mid.folder x) → (told → (x : List ℕ) → new.folder x ≡ over changed mid.folder x)
-    → Ran told old new law tells_old tells_new link_old link_new words (Ok tt)
-ran_done told old mid new law tells_old tells_new link_old link_new words i p w plan changed run judged same only carried others written = record {
-  cause = (i, p, w, run, tt);
-  judged = λ t. (i, p, w, run, (plan.steps, plan.worker, (judged t).0, tt));
-  left = λ t. others_stay words old.folder mid.folder new.folder changed i p w plan.steps plan.worker run (judged t).0 only (same t) (others t);
-  happened = all_fine law plan changed tells_old tells_new (Ok tt) refl (λ h. tt) carried;
-  done = λ t past h.
-      let r = carried past h old.folder (backs_kept (content_of plan.originals.map) old.folder (judged t).1) in
-      let mid_is : over changed mid.folder ≡ over changed old.folder = ap (λ (f : Folder). over changed f) (same t) in
-      let new_is : over changed old.folder ≡ new.folder = λ j x. (sym (written t x ∙ ap (λ (f : Folder). f x) mid_is)) j in
-      let runs = subst (λ (f : Folder). Runs law plan.worker.program plan.steps (length plan.steps) old.folder f r.0) new_is r.1 in
-      record {
-        idl = i;
-        program = p;
-        workers = w;
-        steps = plan.steps;
-        worker = plan.worker;
-        events = r.0;
-        words_are = run;
-        served = (judged t).0;
-        leads = leads law plan.worker.program plan.steps (length plan.steps) old.folder new.folder r.0 runs;
-        runs = runs;
-        told = r.2;
-      };
-}
+le_left : (k l : ℕ) → k ≤ k + l
+le_left k l = omega arith
 
--- ---- words and texts of the form and no rise of a count give 0 or 12
+le_right : (k l : ℕ) → l ≤ k + l
+le_right k l = omega arith
 
-record SameNames (i p w i' p' w' : List ℕ) : Type 0 where
-  pub idl : i ≡ i'
-  pub program : p ≡ p'
-  pub workers : w ≡ w'
+-- a run ends in one question
+two_ends : (r : Run) (k l : ℕ) (a b : Question) → EndsIn r k a → EndsIn r l b → a ≡ b
+two_ends r k l a b x y =
+    let first = ends_stay r k (k + l) (le_left k l) (inl (a, x)) in
+    let second = ends_stay r l (k + l) (le_right k l) (inl (b, y)) in
+    some_is a b (sym x.last ∙ ap last_of (sym first ∙ second) ∙ y.last)
 
-heads : (a b : List ℕ) (xs ys : List (List ℕ)) → (a ∷ xs) ≡ (b ∷ ys) → (a ≡ b) × (xs ≡ ys)
-heads a b xs ys e = (cc, cc)
+-- the folder's texts say one run
+one_run : (law : Meaning) (folder : Folder) (idl program workers : List ℕ) (i j : Interface) (p s : Program) (w v : Worker) → Served folder idl program workers i p w → Served folder idl program workers j s v → run_in idl program i p law folder ≡ run_in idl program j s law folder
+one_run law folder idl program workers i j p s w v a b =
+    let same_i = one_interface (folder idl) i j a.texts.interface b.texts.interface in
+    let same_p = one_tree (folder program) p s a.texts.program b.texts.program in
+    subst (λ (x : Interface). run_in idl program i p law folder ≡ run_in idl program x s law folder) same_i
+    (ap (λ (x : Program). run_in idl program i x law folder) same_p)
 
-same_names : (words : List (List ℕ)) (i p w i' p' w' : List ℕ) → IsRun words i p w → IsRun words i' p' w' → SameNames i p w i' p' w'
-same_names words i p w i' p' w' a b =
-    let one = heads (codes "run") (codes "run") (i ∷ p ∷ w ∷ []) (i' ∷ p' ∷ w' ∷ []) (sym a.words_are ∙ b.words_are) in
-    let two = heads i i' (p ∷ w ∷ []) (p' ∷ w' ∷ []) one.1 in
-    let three = heads p p' (w ∷ []) (w' ∷ []) two.1 in
-    record { idl = two.0; program = three.0; workers = (heads w w' [] [] three.1).0 }
+-- and it ends in one question
+one_end : (law : Meaning) (folder : Folder) (idl program workers : List ℕ) (i j : Interface) (p s : Program) (w v : Worker) (k l : ℕ) (a b : Question) → Served folder idl program workers i p w → Served folder idl program workers j s v
+    → EndsIn (run_in idl program i p law folder) k a → EndsIn (run_in idl program j s law folder) l b → a ≡ b
+one_end law folder idl program workers i j p s w v k l a b x y e f =
+    two_ends (run_in idl program i p law folder) k l a b e (subst (λ (r : Run). EndsIn r l b) (sym (one_run law folder idl program workers i j p s w v x y)) f)
 
 some_none : (o : Option (List ℕ)) (b : List ℕ) → o ≡ Some b → o ≡ None → ⊥
 some_none o b s n = let e : Some b ≡ None = sym s ∙ n in absurd cc
 
-served_present : (folder : Folder) (i p w name : List ℕ) (steps : List Step) (worker : Worker) → Served folder i p w steps worker → FirstAbsent folder i p w name → ⊥
-served_present folder i p w name steps worker s (inl a) = some_none (folder i) s.calls.texts.interface.text s.calls.texts.interface.there a.1
-served_present folder i p w name steps worker s (inr (inl a)) = some_none (folder p) s.calls.texts.program.text s.calls.texts.program.there a.2
-served_present folder i p w name steps worker s (inr (inr a)) = some_none (folder w) s.list.text s.list.there a.3
+served_present : (folder : Folder) (idl program workers name : List ℕ) (i : Interface) (p : Program) (w : Worker) → Served folder idl program workers i p w → FirstAbsent folder idl program workers name → ⊥
+served_present folder idl program workers name i p w s (inl a) = some_none (folder idl) s.texts.interface.text s.texts.interface.there a.1
+served_present folder idl program workers name i p w s (inr (inl a)) = some_none (folder program) s.texts.program.text s.texts.program.there a.2
+served_present folder idl program workers name i p w s (inr (inr a)) = some_none (folder workers) s.list.text s.list.there a.3
 
-served_inside : (folder : Folder) (i p w name : List ℕ) (line : ℕ) (k : TextKind) (steps : List Step) (worker : Worker) → Served folder i p w steps worker → Refused folder i p w name line k → ⊥
-served_inside folder i p w name line k steps worker s (wrong name1 line1 k1 h) = not_wrong (folder i) (folder p) i p name line k s.calls.interface s.calls.program s.calls.texts h
-served_inside folder i p w name line k steps worker s (no_calls i1 p1 both none) = none steps s.calls
-served_inside folder i p w name line k steps worker s (no_worker steps1 calls none) = none worker s.list
+served_right : (folder : Folder) (idl program workers name : List ℕ) (line : ℕ) (k : TextKind) (i : Interface) (p : Program) (w : Worker) → Served folder idl program workers i p w → Refused folder idl program workers name line k → ⊥
+served_right folder idl program workers name line k i p w s (wrong name1 line1 k1 is) = not_wrong (folder idl) (folder program) idl program name line k i p s.texts is
+served_right folder idl program workers name line k i p w s (no_worker j t both none) = none w s.list
 
-moved : (folder : Folder) (i p w i' p' w' : List ℕ) (steps : List Step) (worker : Worker) → SameNames i p w i' p' w' → Served folder i p w steps worker → Served folder i' p' w' steps worker
-moved folder i p w i' p' w' steps worker same s =
-    subst (λ (z : List ℕ). Served folder i' p' z steps worker) same.workers (subst (λ (y : List ℕ). Served folder i' y w steps worker) same.program (subst (λ (x : List ℕ). Served folder x p w steps worker) same.idl s))
+pub ends_so : (told wrote : Type 0) (old new : DiskState) (law : Meaning) (tells_old tells_new : History → Type 0) (link_old link_new out_old out_new : ℕ) (written_old written_new idl program workers : List ℕ) (answer : Result Unit Stop)
+    → Ran told wrote old new law tells_old tells_new link_old link_new out_old out_new written_old written_new idl program workers answer
+    → told → (i : Interface) (p : Program) (worker : Worker) → Served old.folder idl program workers i p worker
+    → (k : ℕ) (q : Question) → EndsIn (run_in idl program i p law old.folder) k q → (past : History) → tells_old past
+    → (Rises old.faults new.faults → ⊥) → (Rises link_old link_new → ⊥) → (Rises out_old out_new → ⊥) → IsStatusOf q (status_of answer) ⊎ (status_of answer ≡ 12)
+ends_so told wrote old new law tells_old tells_new link_old link_new out_old out_new written_old written_new idl program workers (Ok done) ran t i p worker served k z ends past h disk link out =
+    let r = ran.happened t past h in
+    inl (subst (λ (x : Question). IsStatusOf x 0) (one_end law old.folder idl program workers r.0 i r.1 p r.2 worker r.4.1.moment k q.End z r.3 served r.4.1.ends ends) refl)
+ends_so told wrote old new law tells_old tells_new link_old link_new out_old out_new written_old written_new idl program workers (Err (stop.Usage at)) ran t i p worker served k z ends past h disk link out = absurd ran.cause
+ends_so told wrote old new law tells_old tells_new link_old link_new out_old out_new written_old written_new idl program workers (Err (stop.NoText name)) ran t i p worker served k z ends past h disk link out =
+    absurd (served_present old.folder idl program workers name i p worker served (ran.judged t))
+ends_so told wrote old new law tells_old tells_new link_old link_new out_old out_new written_old written_new idl program workers (Err (stop.BadText name line kind)) ran t i p worker served k z ends past h disk link out =
+    absurd (served_right old.folder idl program workers name line kind i p worker served (ran.judged t).1)
+ends_so told wrote old new law tells_old tells_new link_old link_new out_old out_new written_old written_new idl program workers (Err (stop.Fault line kind)) ran t i p worker served k z ends past h disk link out =
+    let r = ran.happened t past h in
+    inl (subst (λ (x : Question). IsStatusOf x 7) (one_end law old.folder idl program workers r.0 i r.1 p r.2 worker r.4.moment k (q.Fault line kind) z r.3 served r.4.ends ends) refl)
+ends_so told wrote old new law tells_old tells_new link_old link_new out_old out_new written_old written_new idl program workers (Err (stop.FuelOut fuel)) ran t i p worker served k z ends past h disk link out =
+    let r = ran.happened t past h in
+    inl (subst (λ (x : Question). IsStatusOf x 8) (one_end law old.folder idl program workers r.0 i r.1 p r.2 worker r.4.moment k q.FuelOut z r.3 served r.4.ends ends) refl)
+ends_so told wrote old new law tells_old tells_new link_old link_new out_old out_new written_old written_new idl program workers (Err (stop.Lost n)) ran t i p worker served k z ends past h disk link out = absurd (link ran.cause)
+ends_so told wrote old new law tells_old tells_new link_old link_new out_old out_new written_old written_new idl program workers (Err stop.Disk) ran t i p worker served k z ends past h disk link out = absurd (disk ran.cause)
+ends_so told wrote old new law tells_old tells_new link_old link_new out_old out_new written_old written_new idl program workers (Err stop.Sink) ran t i p worker served k z ends past h disk link out = absurd (out ran.cause)
+ends_so told wrote old new law tells_old tells_new link_old link_new out_old out_new written_old written_new idl program workers (Err stop.Memory) ran t i p worker served k z ends past h disk link out = inr refl
 
-pub zero_or_twelve : (told : Type 0) (old new : DiskState) (law : Meaning) (tells_old tells_new : History → Type 0) (link_old link_new : ℕ) (words : List (List ℕ)) (stop : Stop) → Ran told old new law tells_old tells_new link_old link_new words (Err stop) → told → IsServed words old.folder (λ steps worker. Unit {0})
-    → (Rises old.faults new.faults → ⊥) → (Rises link_old link_new → ⊥) → (status_of (Err stop) ≡ 0) ⊎ (status_of (Err stop) ≡ 12)
-zero_or_twelve told old new law tells_old tells_new link_old link_new words (Usage at) ran t s disk link = absurd (no_usage words at (inl (s.0, s.1, s.2, s.3)) ran.cause)
-zero_or_twelve told old new law tells_old tells_new link_old link_new words (NoText name) ran t s disk link =
-    let j = ran.judged t in
-    absurd (served_present old.folder j.0 j.1 j.2 name s.4.0 s.4.1 (moved old.folder s.0 s.1 s.2 j.0 j.1 j.2 s.4.0 s.4.1 (same_names words s.0 s.1 s.2 j.0 j.1 j.2 s.3 j.3) s.4.2) j.4)
-zero_or_twelve told old new law tells_old tells_new link_old link_new words (BadText name line kind) ran t s disk link =
-    let j = ran.judged t in
-    absurd (served_inside old.folder j.0 j.1 j.2 name line kind s.4.0 s.4.1 (moved old.folder s.0 s.1 s.2 j.0 j.1 j.2 s.4.0 s.4.1 (same_names words s.0 s.1 s.2 j.0 j.1 j.2 s.3 j.3) s.4.2) j.4.1)
-zero_or_twelve told old new law tells_old tells_new link_old link_new words (Lost n) ran t s disk link = absurd (link ran.cause.1)
-zero_or_twelve told old new law tells_old tells_new link_old link_new words Disk ran t s disk link = absurd (disk ran.cause.1)
-zero_or_twelve told old new law tells_old tells_new link_old link_new words Sink ran t s disk link = absurd ran.cause
-zero_or_twelve told old new law tells_old tells_new link_old link_new words Memory ran t s disk link = inr refl
+-- ---- the program as it begins
+
+pub begins_so : (idl program : List ℕ) (i : Interface) (p : Program) (fuel : ℕ) (m : Talking) → m ≡ first_talking idl program i p fuel → Begins m
+begins_so idl program i p fuel m e = subst (λ (x : Talking). Begins x) (sym e) (record { fuel = fuel; begins = refl; ops = refl })
+
+pub goes_so : (idl program : List ℕ) (i : Interface) (p : Program) (fuel : ℕ) (m : Talking) → m ≡ first_talking idl program i p fuel → m.next ≡ Goes (dialogue m.given fuel)
+goes_so idl program i p fuel m e = subst (λ (x : Talking). x.next ≡ Goes (dialogue x.given fuel)) (sym e) refl
+
+pub plays_so : (idl program : List ℕ) (i : Interface) (p : Program) (law : Meaning) (old mid : Folder) (m : Talking) (worker text text' : List ℕ) (tells : History → Type 0) (past : History) (r : Result Changed Halt)
+    → m ≡ first_talking idl program i p FUEL_DEFAULT → mid ≡ old → text' ≡ text
+    → PlayTold worker (run_of m.given law mid FUEL_DEFAULT) mid text tells past r → PlayTold worker (run_in idl program i p law old) old text' tells past r
+plays_so idl program i p law old mid m worker text text' tells past r e same is h =
+    subst (λ (x : List ℕ). PlayTold worker (run_in idl program i p law old) old x tells past r) (sym is)
+    (subst (λ (f : Folder). PlayTold worker (run_in idl program i p law f) f text tells past r) same
+    (subst (λ (x : Talking). PlayTold worker (run_of x.given law mid FUEL_DEFAULT) mid text tells past r) e h))
+
+-- ---- the same under other spellings
+
+pub ran_as : (told wrote : Type 0) (old old' new : DiskState) (law : Meaning) (tells_old tells_new : History → Type 0) (link_old link_new out_old out_new : ℕ) (written_old written_new idl program workers : List ℕ) (a b : Result Unit Stop)
+    → old' ≡ old → b ≡ a → Ran told wrote old new law tells_old tells_new link_old link_new out_old out_new written_old written_new idl program workers a
+    → Ran told wrote old' new law tells_old tells_new link_old link_new out_old out_new written_old written_new idl program workers b
+ran_as told wrote old old' new law tells_old tells_new link_old link_new out_old out_new written_old written_new idl program workers a b e f r =
+    subst (λ (x : DiskState). Ran told wrote x new law tells_old tells_new link_old link_new out_old out_new written_old written_new idl program workers b) (sym e)
+    (subst (λ (x : Result Unit Stop). Ran told wrote old new law tells_old tells_new link_old link_new out_old out_new written_old written_new idl program workers x) (sym f) r)
+
+pub did_run : (told wrote : Type 0) (d e : DiskState) (law : Meaning) (s t : History → Type 0) (k l o p : ℕ) (v w : List ℕ) (ws : List (List ℕ)) (wish : Wish) (idl program workers : List ℕ) (answer : Result Unit Stop)
+    → Asks ws wish → IsRun ws idl program workers → Did told wrote d e law s t k l o p v w wish answer → Ran told wrote d e law s t k l o p v w idl program workers answer
+did_run told wrote d e law s t k l o p v w ws wish idl program workers answer asks run did =
+    subst (λ (x : Wish). Did told wrote d e law s t k l o p v w x answer) (asks_run ws wish idl program workers asks run) did
+
+pub did_check : (told wrote : Type 0) (d e : DiskState) (law : Meaning) (s t : History → Type 0) (k l o p : ℕ) (v w : List ℕ) (ws : List (List ℕ)) (wish : Wish) (idl program : List ℕ) (answer : Result Unit Stop)
+    → Asks ws wish → IsCheck ws idl program → Did told wrote d e law s t k l o p v w wish answer → RanCheck told wrote d e o p v w idl program answer
+did_check told wrote d e law s t k l o p v w ws wish idl program answer asks check did =
+    subst (λ (x : Wish). Did told wrote d e law s t k l o p v w x answer) (asks_check ws wish idl program asks check) did
+
+pub le_trans : (a b c : ℕ) → a ≤ b → b ≤ c → a ≤ c
+le_trans a b c x y = omega arith

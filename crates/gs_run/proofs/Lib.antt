@@ -1,14 +1,6 @@
 pub mod Answering
-pub mod Carrying
-pub mod Changes
 pub mod Checks
 pub mod Conclusions
-pub mod Gathering
-pub mod Giving
-pub mod Histories
 pub mod Judgements
-pub mod Names
-pub mod Reaching
 pub mod Verdicts
-pub mod Written
 pub mod Wording

@@ -8,13 +8,8 @@ use Rattle.gs_tree.specs.Program.{Program}
 use Rattle.gs_parse.specs.Faulty.{IsText}
 use Rattle.gs_parse.proofs.Texts.{one_program, says_or_fails}
 use Rattle.gs_check.specs.Faults.{fault_of}
-use Rattle.gs_form.specs.Straight.{straight_calls}
-use Rattle.gs_form.specs.declared.program.Step.{Step}
-use Rattle.gs_run.specs.Reading.{Readable}
-use Rattle.gs_run.specs.Served.{HasCalls, Refused, no_calls}
 use Rattle.gs_run.specs.Texts.{HasInterface, HasProgram, HasBoth, IsWrong, interface, program, checks}
 use Rattle.gs_run.specs.declared.kinds.TextKind.{TextKind}
-use Rattle.gs_run.specs.declared.kinds.TextKind.TheVariants.{NotYet}
 
 some_is : {A : Type 0} (x y : A) → Some x ≡ Some y → x ≡ y
 some_is x y e = cc
@@ -46,22 +41,3 @@ not_wrong f g i_name p_name name line k i p both (checks j q line1 k1 has tree f
     let e : fault_of i.ops p ≡ Some (record { line = line; kind = k1 }) = subst (λ (x : Interface). fault_of x.ops p ≡ Some (record { line = line; kind = k1 })) same_i (subst (λ (x : Program). fault_of j.ops x ≡ Some (record { line = line; kind = k1 })) same_p fault) in
     let no : None ≡ Some (record { line = line; kind = k1 }) = sym both.passes ∙ e in
     absurd cc
-
-calls_of : (folder : Folder) (i_name p_name : List ℕ) (i : Interface) (p : Program) (steps : List Step) → HasBoth (folder i_name) (folder p_name) i p → HasCalls folder i_name p_name steps → straight_calls i i_name p_name p ≡ Some steps
-calls_of folder i_name p_name i p steps both h =
-    let same_i = one_interface (folder i_name) h.interface i h.texts.interface both.interface in
-    let same_p = one_tree (folder p_name) h.program p h.texts.program both.program in
-    subst (λ (x : Interface). straight_calls x i_name p_name p ≡ Some steps) same_i (subst (λ (x : Program). straight_calls h.interface i_name p_name x ≡ Some steps) same_p h.straight)
-
--- the program isn't straight
-pub not_straight : (folder : Folder) (i_name p_name w_name : List ℕ) (i : Interface) (p : Program) → HasBoth (folder i_name) (folder p_name) i p → None ≡ straight_calls i i_name p_name p → Refused folder i_name p_name w_name p_name 0 NotYet
-not_straight folder i_name p_name w_name i p both none = no_calls i p both (λ steps h. let e : None ≡ Some steps = none ∙ calls_of folder i_name p_name i p steps both h in absurd cc)
-
--- a file that the calls read can't be read
-pub no_file : (folder : Folder) (i_name p_name w_name : List ℕ) (i : Interface) (p : Program) (steps : List Step) → HasBoth (folder i_name) (folder p_name) i p → Some steps ≡ straight_calls i i_name p_name p → (Readable folder steps → ⊥)
-    → Refused folder i_name p_name w_name p_name 0 NotYet
-no_file folder i_name p_name w_name i p steps both is unread =
-    no_calls i p both (λ ss h. unread (subst (Readable folder) (sym (some_is steps ss (is ∙ calls_of folder i_name p_name i p ss both h))) h.readable))
-
-pub has_calls : (folder : Folder) (i_name p_name : List ℕ) (i : Interface) (p : Program) (steps : List Step) → HasBoth (folder i_name) (folder p_name) i p → Some steps ≡ straight_calls i i_name p_name p → Readable folder steps → HasCalls folder i_name p_name steps
-has_calls folder i_name p_name i p steps both is readable = record { interface = i; program = p; texts = both; straight = sym is; readable = readable }

@@ -8,7 +8,8 @@ use Rattle.std.specs.Prelude.{bytes_eq, codes}
 use Rattle.std.specs.List.{slice_get}
 use Rattle.std.specs.Option.{option_map}
 use Rattle.gs_types.specs.Name.{IsName, GoesTo}
-use Rattle.gs_run.specs.Asked.{Asks}
+use Rattle.gs_run.specs.Asked as asked
+use Rattle.gs_run.specs.Asked.{Wish, Asks, wish_of}
 use Rattle.gs_run.specs.declared.words.CheckWords.{CheckWords}
 use Rattle.gs_run.specs.declared.words.Command.{Command}
 use Rattle.gs_run.specs.declared.words.Command.TheVariants.{Run, Check}
@@ -344,12 +345,12 @@ is_check words i p verb ni np le = record {
 -- ---- the clause of each command, in the arm in which it was read
 
 -- a run was read
-pub asked_run : (words : List (List ℕ)) (command : Command) (w : Words) → command ≡ Run w → Asks words (Ok command) → IsRun words w.idl w.program w.workers
-asked_run words command w e asks = subst (λ (k : Command). Asks words (Ok k)) e asks
+pub asked_run : (words : List (List ℕ)) (command : Command) (w : Words) → command ≡ Run w → Asks words (wish_of (Ok command)) → IsRun words w.idl w.program w.workers
+asked_run words command w e asks = subst (λ (k : Command). Asks words (wish_of (Ok k))) e asks
 
 -- a check was read
-pub asked_check : (words : List (List ℕ)) (command : Command) (w : CheckWords) → command ≡ Check w → Asks words (Ok command) → IsCheck words w.idl w.program
-asked_check words command w e asks = subst (λ (k : Command). Asks words (Ok k)) e asks
+pub asked_check : (words : List (List ℕ)) (command : Command) (w : CheckWords) → command ≡ Check w → Asks words (wish_of (Ok command)) → IsCheck words w.idl w.program
+asked_check words command w e asks = subst (λ (k : Command). Asks words (wish_of (Ok k))) e asks
 
 -- ---- what words can be
 
@@ -389,3 +390,26 @@ not_later words a b one two lt =
 -- words go wrong at one place only
 pub one_place : (words : List (List ℕ)) (a b : ℕ) → IsUsage words a → IsUsage words b → a ≡ b
 one_place words a b one two = not_apart a b (not_later words a b one two) (not_later words b a two one)
+
+-- two readings of a run's words are one
+pub asks_run : (words : List (List ℕ)) (wish : Wish) (i p w : List ℕ) → Asks words wish → IsRun words i p w → wish ≡ asked.a_run i p w
+asks_run words (asked.a_run j q v) i p w asks run =
+    let one = heads (codes "run") (codes "run") (j ∷ q ∷ v ∷ []) (i ∷ p ∷ w ∷ []) (sym asks.words_are ∙ run.words_are) in
+    let two = heads j i (q ∷ v ∷ []) (p ∷ w ∷ []) one.1 in
+    let three = heads q p (v ∷ []) (w ∷ []) two.1 in
+    let four = (heads v w [] [] three.1).0 in
+    let a = two.0 in
+    let b = three.0 in
+    cc
+asks_run words (asked.a_check j q) i p w asks run = absurd (not_both words i p w j q run asks)
+asks_run words (asked.nothing at) i p w asks run = absurd (no_usage words at (inl (i, p, w, run)) asks)
+
+-- and two of a check's
+pub asks_check : (words : List (List ℕ)) (wish : Wish) (i p : List ℕ) → Asks words wish → IsCheck words i p → wish ≡ asked.a_check i p
+asks_check words (asked.a_run j q v) i p asks check = absurd (not_both words j q v i p asks check)
+asks_check words (asked.a_check j q) i p asks check =
+    let same = same_check words j q i p asks check in
+    let a = same.idl in
+    let b = same.program in
+    cc
+asks_check words (asked.nothing at) i p asks check = absurd (no_usage words at (inr (i, p, check)) asks)

@@ -14,7 +14,7 @@ use Rattle.gs_run.specs.Texts.{IsWithin, IsBeyond, HasBoth, IsWrong}
 use Rattle.gs_run.specs.declared.kinds.TextKind.{TextKind}
 use Rattle.gs_run.specs.declared.kinds.TextKind.TheVariants as kind
 use Rattle.gs_run.specs.declared.stop.Stop.{Stop}
-use Rattle.gs_run.specs.declared.stop.Stop.TheVariants.{Usage, NoText, BadText, Lost, Disk, Sink, Memory}
+use Rattle.gs_run.specs.declared.stop.Stop.TheVariants.{Usage, NoText, BadText, Fault, FuelOut, Lost, Disk, Sink, Memory}
 
 -- the printed interface, and then the printed program
 abbrev pub printed_both : Interface → Program → List ℕ
@@ -41,6 +41,8 @@ CheckCause disk_old disk_new out_old out_new (Ok done) = Unit {0}
 CheckCause disk_old disk_new out_old out_new (Err (Usage word)) = ⊥
 CheckCause disk_old disk_new out_old out_new (Err (NoText name)) = Unit {0}
 CheckCause disk_old disk_new out_old out_new (Err (BadText name line k)) = Unit {0}
+CheckCause disk_old disk_new out_old out_new (Err (Fault line k)) = ⊥
+CheckCause disk_old disk_new out_old out_new (Err (FuelOut fuel)) = ⊥
 CheckCause disk_old disk_new out_old out_new (Err (Lost n)) = ⊥
 CheckCause disk_old disk_new out_old out_new (Err Disk) = Rises disk_old disk_new
 CheckCause disk_old disk_new out_old out_new (Err Sink) = Rises out_old out_new
@@ -52,6 +54,8 @@ CheckJudged folder idl program (Ok done) = HoldsBoth folder idl program
 CheckJudged folder idl program (Err (Usage word)) = ⊥
 CheckJudged folder idl program (Err (NoText name)) = FirstMissing folder idl program name
 CheckJudged folder idl program (Err (BadText name line k)) = CheckRefused folder idl program name line k
+CheckJudged folder idl program (Err (Fault line k)) = ⊥
+CheckJudged folder idl program (Err (FuelOut fuel)) = ⊥
 CheckJudged folder idl program (Err (Lost n)) = ⊥
 CheckJudged folder idl program (Err Disk) = Unit {0}
 CheckJudged folder idl program (Err Sink) = HoldsBoth folder idl program
@@ -64,6 +68,8 @@ CheckWrote told folder idl program old new (Ok done) =
 CheckWrote told folder idl program old new (Err (Usage word)) = new ≡ old
 CheckWrote told folder idl program old new (Err (NoText name)) = new ≡ old
 CheckWrote told folder idl program old new (Err (BadText name line k)) = new ≡ old
+CheckWrote told folder idl program old new (Err (Fault line k)) = new ≡ old
+CheckWrote told folder idl program old new (Err (FuelOut fuel)) = new ≡ old
 CheckWrote told folder idl program old new (Err (Lost n)) = new ≡ old
 CheckWrote told folder idl program old new (Err Disk) = new ≡ old
 CheckWrote told folder idl program old new (Err Sink) =

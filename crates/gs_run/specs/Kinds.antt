@@ -6,6 +6,8 @@ use Rattle.gs_parse.specs.declared.fault.ParseKind.{ParseKind}
 use Rattle.gs_parse.specs.declared.fault.ParseKind.TheVariants as parse
 use Rattle.gs_check.specs.declared.kind.CheckKind.{CheckKind}
 use Rattle.gs_check.specs.declared.kind.CheckKind.TheVariants as check
+use Rattle.gs_types.specs.declared.settings.FaultKind.{FaultKind}
+use Rattle.gs_types.specs.declared.settings.FaultKind.TheVariants as fault
 use Rattle.gs_run.specs.declared.kinds.TextKind.{TextKind}
 use Rattle.gs_run.specs.declared.kinds.TextKind.TheVariants.{Idl, Program, Check, NotYet}
 
@@ -47,3 +49,25 @@ kind_text (Idl kind) = idl_kind_text kind
 kind_text (Program kind) = parse_kind_text kind
 kind_text (Check kind) = check_kind_text kind
 kind_text NotYet = codes "NotYet"
+
+-- faults of a program that runs
+abbrev pub fault_kind_text : FaultKind → List ℕ
+fault_kind_text fault.Overflow = codes "Overflow"
+fault_kind_text fault.ZeroDivisor = codes "ZeroDivisor"
+fault_kind_text fault.StringTooLong = codes "StringTooLong"
+fault_kind_text fault.TextTooLong = codes "TextTooLong"
+fault_kind_text fault.FileTooLong = codes "FileTooLong"
+fault_kind_text fault.BadName = codes "BadName"
+fault_kind_text fault.NoFile = codes "NoFile"
+fault_kind_text fault.OwnText = codes "OwnText"
+fault_kind_text fault.SameOut = codes "SameOut"
+fault_kind_text fault.FileOpen = codes "FileOpen"
+fault_kind_text fault.HandleOpen = codes "HandleOpen"
+fault_kind_text fault.HandleClosed = codes "HandleClosed"
+fault_kind_text fault.WrongMode = codes "WrongMode"
+fault_kind_text fault.TooManyOpen = codes "TooManyOpen"
+fault_kind_text fault.TooManyTasks = codes "TooManyTasks"
+fault_kind_text fault.TooManyActions = codes "TooManyActions"
+fault_kind_text fault.TooManyNames = codes "TooManyNames"
+fault_kind_text fault.BadByte = codes "BadByte"
+fault_kind_text fault.StillOpen = codes "StillOpen"

@@ -1,123 +1,192 @@
--- What a call of `gs` did.
-use Rattle.std.specs.Prelude.{◌≡◌, ℕ, List, [], ◌++◌, length, Option, Some, None, Result, Ok, Err}
+-- What a call of `gs run` did.
+use Rattle.std.specs.Prelude.{◌≡◌, ◌⊎◌, ℕ, ◌≤◌, List, [], ◌++◌, length, take, option_map, false, Result, Ok, Err}
+use Rattle.gs_idl.specs.Interface.{Interface}
+use Rattle.gs_tree.specs.Program.{Program}
 use Rattle.gs_types.specs.Counts.{Rises}
 use Rattle.gs_types.specs.History.{History}
 use Rattle.gs_types.specs.Job.{Meaning}
+use Rattle.gs_types.specs.declared.limits.TheConstants.{FUEL_DEFAULT}
 use Rattle.gs_disk.specs.Folder.{Folder, DiskState}
-use Rattle.gs_form.specs.declared.program.Step.{Step}
+use Rattle.gs_talk.specs.declared.question.Question.{Question}
+use Rattle.gs_talk.specs.declared.question.Question.TheVariants as q
+use Rattle.gs_talk.specs.Talk.{State, Stop}
+use Rattle.gs_talk.specs.Seq.{Known, Run, seq, EndsIn}
+use Rattle.gs_main.specs.Talking.{given_by}
+use Rattle.gs_serial.specs.Played.{TellsAfter}
+use Rattle.gs_serial.specs.Run.{run_of, is_written, RanInto, RanLost, RanUntil}
 use Rattle.gs_form.specs.declared.worker.Worker.{Worker}
-use Rattle.gs_run.specs.Calls.{Leads, Runs, failure_in}
-use Rattle.gs_run.specs.Reading.{WrittenBefore}
 use Rattle.gs_run.specs.Served.{Served, Present, FirstAbsent, Refused}
-use Rattle.gs_run.specs.Words.{IsRun, IsCheck, IsUsage}
-use Rattle.gs_run.specs.declared.stop.Stop.{Stop}
-use Rattle.gs_run.specs.declared.stop.Stop.TheVariants.{Usage, NoText, BadText, Lost, Disk, Sink, Memory}
+use Rattle.gs_run.specs.declared.stop.Stop.TheVariants as stop
+use Rattle.gs_run.specs.declared.stop.Stop as stops
 
--- the words are no check's
-abbrev pub IsNoCheck : List (List ℕ) → Type 0
-IsNoCheck words = (idl program : List ℕ) → IsCheck words idl program → ⊥
+-- ---- the sequential run
 
--- the words are a run's, with these names
-abbrev pub SomeRun : List (List ℕ) → (List ℕ → List ℕ → List ℕ → Type 0) → Type 0
-SomeRun words P = (idl : List ℕ) × (program : List ℕ) × (workers : List ℕ) × IsRun words idl program workers × P idl program workers
+-- of a program over a folder, with the default fuel
+abbrev pub run_in : (idl_name program_name : List ℕ) → Interface → Program → Meaning → Folder → Run
+run_in idl_name program_name i p law folder =
+    run_of (given_by idl_name program_name i p) law folder FUEL_DEFAULT
 
--- what each answer says of the words and of the counts of the disk and the link
-abbrev pub Cause : List (List ℕ) → ℕ → ℕ → ℕ → ℕ → Result Unit Stop → Type 0
-Cause words disk_old disk_new link_old link_new (Ok done) = SomeRun words (λ i p w. Unit {0})
-Cause words disk_old disk_new link_old link_new (Err (Usage at)) = IsUsage words at
-Cause words disk_old disk_new link_old link_new (Err (NoText name)) = SomeRun words (λ i p w. Unit {0})
-Cause words disk_old disk_new link_old link_new (Err (BadText name line kind)) = SomeRun words (λ i p w. Unit {0})
-Cause words disk_old disk_new link_old link_new (Err (Lost n)) = SomeRun words (λ i p w. Unit {0}) × Rises link_old link_new
-Cause words disk_old disk_new link_old link_new (Err Disk) = SomeRun words (λ i p w. Unit {0}) × Rises disk_old disk_new
-Cause words disk_old disk_new link_old link_new (Err Sink) = ⊥
-Cause words disk_old disk_new link_old link_new (Err Memory) = SomeRun words (λ i p w. Unit {0})
+-- no action of the run writes the file
+abbrev pub IsUntouched : Run → List ℕ → Type 0
+IsUntouched r x = (k : ℕ) → is_written r k x ≡ false
 
--- the folder serves a run with these words
-abbrev pub IsServed : List (List ℕ) → Folder → (List Step → Worker → Type 0) → Type 0
-IsServed words folder P = SomeRun words (λ i p w. (steps : List Step) × (worker : Worker) × Served folder i p w steps worker × P steps worker)
+-- the run ended, the folder has its files, and this is its text; the link tells its tasks
+pub record Ended (program : List ℕ) (r : Run) (folder : Folder) (text : List ℕ)
+    (tells : History → Type 0) (past : History) : Type 0 where
+  pub moment : ℕ
+  pub state : State
+  pub rest : (seq r moment).rest ≡ Stop q.End state
+  pub ends : EndsIn r moment q.End
+  pub files : (x : List ℕ) → (seq r moment).world.files x ≡ option_map Known (folder x)
+  pub text_is : text ≡ state.text
+  pub told : TellsAfter program r.texts.ops tells past (seq r moment).world []
 
--- what each answer says of the folder as the call begins
-abbrev pub Judged : List (List ℕ) → Folder → Result Unit Stop → Type 0
-Judged words folder (Ok done) = IsServed words folder (λ s w. Unit {0})
-Judged words folder (Err (Usage at)) = Unit {0}
-Judged words folder (Err (NoText name)) = SomeRun words (λ i p w. FirstAbsent folder i p w name)
-Judged words folder (Err (BadText name line kind)) = SomeRun words (λ i p w. Present folder i p w × Refused folder i p w name line kind)
-Judged words folder (Err (Lost n)) = IsServed words folder (λ s w. Unit {0})
-Judged words folder (Err Disk) = Unit {0}
-Judged words folder (Err Sink) = ⊥
-Judged words folder (Err Memory) = Unit {0}
+-- ---- the folder as the call began
 
--- all files read as before
-abbrev pub Unchanged : Folder → Folder → Type 0
+-- its texts say an interface, a program that passes and a worker, of which this holds
+abbrev pub IsServed : Folder → (idl program workers : List ℕ)
+    → (Interface → Program → Worker → Type 0) → Type 0
+IsServed folder idl program workers P = (i : Interface) × (p : Program) × (worker : Worker)
+    × Served folder idl program workers i p worker × P i p worker
+
+-- what each answer says of it
+abbrev pub Judged : Folder → (idl program workers : List ℕ) → Result Unit stops.Stop → Type 0
+Judged folder idl program workers (Ok done) =
+    IsServed folder idl program workers (λ i p worker. Unit {0})
+Judged folder idl program workers (Err (stop.Usage word)) = ⊥
+Judged folder idl program workers (Err (stop.NoText name)) =
+    FirstAbsent folder idl program workers name
+Judged folder idl program workers (Err (stop.BadText name line kind)) =
+    Present folder idl program workers × Refused folder idl program workers name line kind
+Judged folder idl program workers (Err (stop.Fault line kind)) =
+    IsServed folder idl program workers (λ i p worker. Unit {0})
+Judged folder idl program workers (Err (stop.FuelOut fuel)) =
+    IsServed folder idl program workers (λ i p worker. Unit {0})
+Judged folder idl program workers (Err (stop.Lost n)) =
+    IsServed folder idl program workers (λ i p worker. Unit {0})
+Judged folder idl program workers (Err stop.Disk) = Unit {0}
+Judged folder idl program workers (Err stop.Sink) =
+    IsServed folder idl program workers (λ i p worker. Unit {0})
+Judged folder idl program workers (Err stop.Memory) = Unit {0}
+
+-- ---- the counts of faults
+
+-- what each answer says of those of the disk, the link and the output
+abbrev pub Cause : (disk_old disk_new link_old link_new out_old out_new : ℕ)
+    → Result Unit stops.Stop → Type 0
+Cause d e k l o p (Ok done) = Unit {0}
+Cause d e k l o p (Err (stop.Usage word)) = ⊥
+Cause d e k l o p (Err (stop.NoText name)) = Unit {0}
+Cause d e k l o p (Err (stop.BadText name line kind)) = Unit {0}
+Cause d e k l o p (Err (stop.Fault line kind)) = Unit {0}
+Cause d e k l o p (Err (stop.FuelOut fuel)) = fuel ≡ FUEL_DEFAULT
+Cause d e k l o p (Err (stop.Lost n)) = Rises k l
+Cause d e k l o p (Err stop.Disk) = Rises d e
+Cause d e k l o p (Err stop.Sink) = Rises o p
+Cause d e k l o p (Err stop.Memory) = Unit {0}
+
+-- ---- the folder as the call ended
+
+abbrev pub Unchanged : (old new : Folder) → Type 0
 Unchanged old new = (x : List ℕ) → new x ≡ old x
 
--- all files that the calls don't write read as before
-abbrev pub OthersStay : List (List ℕ) → Folder → Folder → Type 0
-OthersStay words old new = (x : List ℕ) → (IsServed words old (λ steps worker. WrittenBefore steps (length steps) x) → ⊥) → new x ≡ old x
+-- each file stays that the run doesn't write which the texts say
+abbrev pub OthersStay : Meaning → (idl program workers : List ℕ) → (old new : Folder) → Type 0
+OthersStay law idl program workers old new = (x : List ℕ)
+    → ((i : Interface) (p : Program) (worker : Worker)
+    → Served old idl program workers i p worker
+    → IsUntouched (run_in idl program i p law old) x) → new x ≡ old x
 
--- what each answer leaves of the folder
-abbrev pub Left : List (List ℕ) → Folder → Folder → Result Unit Stop → Type 0
-Left words old new (Ok done) = OthersStay words old new
-Left words old new (Err (Usage at)) = Unchanged old new
-Left words old new (Err (NoText name)) = Unchanged old new
-Left words old new (Err (BadText name line kind)) = Unchanged old new
-Left words old new (Err (Lost n)) = Unchanged old new
-Left words old new (Err Disk) = OthersStay words old new
-Left words old new (Err Sink) = ⊥
-Left words old new (Err Memory) = OthersStay words old new
+-- what each answer leaves: only where the run has ended anything was written
+abbrev pub Left : Meaning → (idl program workers : List ℕ) → (old new : Folder)
+    → Result Unit stops.Stop → Type 0
+Left law idl program workers old new (Ok done) = OthersStay law idl program workers old new
+Left law idl program workers old new (Err (stop.Usage word)) = ⊥
+Left law idl program workers old new (Err (stop.NoText name)) = Unchanged old new
+Left law idl program workers old new (Err (stop.BadText name line kind)) = Unchanged old new
+Left law idl program workers old new (Err (stop.Fault line kind)) = Unchanged old new
+Left law idl program workers old new (Err (stop.FuelOut fuel)) = Unchanged old new
+Left law idl program workers old new (Err (stop.Lost n)) = Unchanged old new
+Left law idl program workers old new (Err stop.Disk) = OthersStay law idl program workers old new
+Left law idl program workers old new (Err stop.Sink) = OthersStay law idl program workers old new
+Left law idl program workers old new (Err stop.Memory) = OthersStay law idl program workers old new
 
--- the task that each answer names
-abbrev pub lost_in : Result Unit Stop → Option ℕ
-lost_in (Ok done) = None
-lost_in (Err (Usage at)) = None
-lost_in (Err (NoText name)) = None
-lost_in (Err (BadText name line kind)) = None
-lost_in (Err (Lost n)) = Some n
-lost_in (Err Disk) = None
-lost_in (Err Sink) = None
-lost_in (Err Memory) = None
+-- ---- the output
 
--- where words or texts were refused, nothing happened on the link
-abbrev pub IsQuiet : Result Unit Stop → History → Type 0
-IsQuiet (Ok done) h = Unit {0}
-IsQuiet (Err (Usage at)) h = h ≡ []
-IsQuiet (Err (NoText name)) h = h ≡ []
-IsQuiet (Err (BadText name line kind)) h = h ≡ []
-IsQuiet (Err (Lost n)) h = Unit {0}
-IsQuiet (Err Disk) h = Unit {0}
-IsQuiet (Err Sink) h = ⊥
-IsQuiet (Err Memory) h = Unit {0}
+-- each answer but these two writes nothing
+abbrev pub Wrote : (old new : List ℕ) → Result Unit stops.Stop → Type 0
+Wrote old new (Ok done) = (text : List ℕ) × (new ≡ old ++ text)
+Wrote old new (Err (stop.Usage word)) = ⊥
+Wrote old new (Err (stop.NoText name)) = new ≡ old
+Wrote old new (Err (stop.BadText name line kind)) = new ≡ old
+Wrote old new (Err (stop.Fault line kind)) = new ≡ old
+Wrote old new (Err (stop.FuelOut fuel)) = new ≡ old
+Wrote old new (Err (stop.Lost n)) = new ≡ old
+Wrote old new (Err stop.Disk) = new ≡ old
+Wrote old new (Err stop.Sink) = (text : List ℕ) × (k : ℕ) × (new ≡ old ++ take k text)
+Wrote old new (Err stop.Memory) = new ≡ old
 
--- the history of the call: a failure stands in it exactly where the answer is that its task was lost
-pub record Happened (tells : History → Type 0) (past : History) (answer : Result Unit Stop) : Type 0 where
-  pub events : History
-  pub told : tells (events ++ past)
-  pub failure : failure_in events ≡ lost_in answer
-  pub quiet : IsQuiet answer events
+-- ---- the run
 
--- the calls were carried out one after the other: the folder is the one that they give, and the events of the link are
--- their starts and ends, in order, each once
-pub record Done (law : Meaning) (words : List (List ℕ)) (old new : Folder) (tells : History → Type 0) (past : History) : Type 0 where
-  pub idl : List ℕ
-  pub program : List ℕ
-  pub workers : List ℕ
-  pub steps : List Step
-  pub worker : Worker
-  pub events : History
-  pub words_are : IsRun words idl program workers
-  pub served : Served old idl program workers steps worker
-  pub leads : Leads law steps (length steps) old new
-  pub runs : Runs law worker.program steps (length steps) old new events
-  pub told : tells (events ++ past)
+-- what each answer says of the sequential run under the link's law, and of the link's events
+abbrev pub Happened : (wrote : Type 0) → Meaning → (idl program workers : List ℕ)
+    → (old new : Folder) → (tells : History → Type 0) → (past : History)
+    → (written_old written_new : List ℕ) → Result Unit stops.Stop → Type 0
+Happened wrote law idl program workers old new tells past before after (Ok done) =
+    IsServed old idl program workers (λ i p worker. (text : List ℕ)
+    × Ended worker.program (run_in idl program i p law old) new text tells past
+    × (wrote → after ≡ before ++ text))
+Happened wrote law idl program workers old new tells past before after (Err (stop.Usage word)) = ⊥
+Happened wrote law idl program workers old new tells past before after (Err (stop.NoText name)) =
+    tells past
+Happened wrote law idl program workers old new tells past before after
+    (Err (stop.BadText name line kind)) = tells past
+Happened wrote law idl program workers old new tells past before after
+    (Err (stop.Fault line kind)) = IsServed old idl program workers (λ i p worker.
+    RanInto worker.program (run_in idl program i p law old) tells past (q.Fault line kind))
+Happened wrote law idl program workers old new tells past before after
+    (Err (stop.FuelOut fuel)) = IsServed old idl program workers (λ i p worker.
+    RanInto worker.program (run_in idl program i p law old) tells past q.FuelOut)
+Happened wrote law idl program workers old new tells past before after (Err (stop.Lost n)) =
+    IsServed old idl program workers (λ i p worker.
+    RanLost worker.program (run_in idl program i p law old) tells past n)
+Happened wrote law idl program workers old new tells past before after (Err stop.Disk) =
+    tells past ⊎ IsServed old idl program workers (λ i p worker.
+    RanUntil worker.program (run_in idl program i p law old) tells past)
+Happened wrote law idl program workers old new tells past before after (Err stop.Sink) =
+    IsServed old idl program workers (λ i p worker. (text : List ℕ)
+    × Ended worker.program (run_in idl program i p law old) new text tells past
+    × (wrote → (k : ℕ) × (k ≤ length text) × (after ≡ before ++ take k text)))
+Happened wrote law idl program workers old new tells past before after (Err stop.Memory) =
+    tells past ⊎ IsServed old idl program workers (λ i p worker.
+    RanUntil worker.program (run_in idl program i p law old) tells past)
 
-abbrev pub DoneAt : Meaning → List (List ℕ) → Folder → Folder → (History → Type 0) → History → Result Unit Stop → Type 0
-DoneAt law words old new tells past (Ok done) = Done law words old new tells past
-DoneAt law words old new tells past (Err stop) = Unit {0}
+-- ---- all of it
 
--- what a call did with words, on a disk that tells its folder where `told` holds, and a link
-pub record Ran (told : Type 0) (old new : DiskState) (law : Meaning) (tells_old tells_new : History → Type 0) (link_old link_new : ℕ) (words : List (List ℕ)) (answer : Result Unit Stop) : Type 0 where
-  pub cause : Cause words old.faults new.faults link_old link_new answer
-  pub judged : told → Judged words old.folder answer
-  pub left : told → Left words old.folder new.folder answer
-  pub happened : (past : History) → tells_old past → Happened tells_new past answer
-  pub done : told → (past : History) → tells_old past → DoneAt law words old.folder new.folder tells_new past answer
+-- what a call did with three names, on a disk that tells its folder where `told` holds, a link
+-- under a law, and an output that tells what was written where `wrote` holds
+pub record Ran (told wrote : Type 0) (old new : DiskState) (law : Meaning)
+    (tells_old tells_new : History → Type 0) (link_old link_new out_old out_new : ℕ)
+    (written_old written_new : List ℕ) (idl program workers : List ℕ)
+    (answer : Result Unit stops.Stop) : Type 0 where
+  pub cause : Cause old.faults new.faults link_old link_new out_old out_new answer
+  pub judged : told → Judged old.folder idl program workers answer
+  pub left : told → (past : History) → tells_old past
+      → Left law idl program workers old.folder new.folder answer
+  pub written : wrote → Wrote written_old written_new answer
+  pub happened : told → (past : History) → tells_old past
+      → Happened wrote law idl program workers old.folder new.folder tells_new past
+      written_old written_new answer
+
+-- ---- runs that end, and no fault
+
+-- the status of an ended run
+abbrev pub IsStatusOf : Question → ℕ → Type 0
+IsStatusOf q.End status = status ≡ 0
+IsStatusOf (q.Fault line kind) status = status ≡ 7
+IsStatusOf q.FuelOut status = status ≡ 8
+IsStatusOf (q.Call op line args) status = Unit {0}
+IsStatusOf (q.Use n place) status = Unit {0}
+IsStatusOf (q.OpenFile name mode line) status = Unit {0}
+IsStatusOf (q.CloseFile name bytes) status = Unit {0}
+IsStatusOf q.Barrier status = Unit {0}

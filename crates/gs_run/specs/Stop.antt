@@ -1,14 +1,16 @@
 -- Why a call of `gs` stops: its status, and its line.
 use Rattle.std.specs.Prelude.{ℕ, List, [], ◌∷◌, ◌++◌, codes, decimal, Result, Ok, Err}
-use Rattle.gs_run.specs.Kinds.{kind_text}
+use Rattle.gs_run.specs.Kinds.{kind_text, fault_kind_text}
 use Rattle.gs_run.specs.declared.stop.Stop.{Stop}
-use Rattle.gs_run.specs.declared.stop.Stop.TheVariants.{Usage, NoText, BadText, Lost, Disk, Sink, Memory}
+use Rattle.gs_run.specs.declared.stop.Stop.TheVariants.{Usage, NoText, BadText, Fault, FuelOut, Lost, Disk, Sink, Memory}
 
 abbrev pub status_of : Result Unit Stop → ℕ
 status_of (Ok done) = 0
 status_of (Err (Usage word)) = 2
 status_of (Err (NoText name)) = 3
 status_of (Err (BadText name line kind)) = 4
+status_of (Err (Fault line kind)) = 7
+status_of (Err (FuelOut fuel)) = 8
 status_of (Err (Lost n)) = 9
 status_of (Err Disk) = 10
 status_of (Err Sink) = 11
@@ -18,6 +20,9 @@ abbrev pub line_of : Stop → List ℕ
 line_of (Usage word) = codes "gs: usage: word " ++ (decimal word ++ 10 ∷ [])
 line_of (NoText name) = codes "gs: no text: " ++ (name ++ 10 ∷ [])
 line_of (BadText name line kind) = codes "gs: bad text: " ++ (name ++ (codes ":" ++ (decimal line ++ (codes ": " ++ (kind_text kind ++ 10 ∷ [])))))
+line_of (Fault line kind) = codes "gs: program fault: line "
+    ++ (decimal line ++ (codes ": " ++ (fault_kind_text kind ++ 10 ∷ [])))
+line_of (FuelOut fuel) = codes "gs: fuel out: " ++ (decimal fuel ++ 10 ∷ [])
 line_of (Lost n) = codes "gs: task lost: " ++ (decimal n ++ 10 ∷ [])
 line_of Disk = codes "gs: disk fault\n"
 line_of Sink = codes "gs: sink fault\n"

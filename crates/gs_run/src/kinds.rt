@@ -1,10 +1,11 @@
 // How a text goes wrong.
 ghost use Rattle.std.specs.Prelude.{◌≡◌};
-ghost use Rattle.gs_run.specs.Kinds.{idl_kind_text, parse_kind_text, check_kind_text, kind_text};
+ghost use Rattle.gs_run.specs.Kinds.{idl_kind_text, parse_kind_text, check_kind_text, fault_kind_text, kind_text};
 
 use gs_check::CheckKind;
 use gs_idl::IdlKind;
 use gs_parse::ParseKind;
+use gs_types::FaultKind;
 
 /// How a text goes wrong: an IDL by its grammar, a program by its grammar or its checks, or a text that says what isn't
 /// carried out yet.
@@ -73,5 +74,32 @@ pub(crate) fn kind_text(kind: TextKind) -> &'static [u8]
         TextKind::Program { kind } => parse_kind_text(kind),
         TextKind::Check { kind } => check_kind_text(kind),
         TextKind::NotYet => b"NotYet",
+    }
+}
+
+/// The word for a fault of a program that runs.
+pub(crate) fn fault_kind_text(kind: FaultKind) -> &'static [u8]
+    ensures { result.now ≡ fault_kind_text kind }
+{
+    match kind {
+        FaultKind::Overflow => b"Overflow",
+        FaultKind::ZeroDivisor => b"ZeroDivisor",
+        FaultKind::StringTooLong => b"StringTooLong",
+        FaultKind::TextTooLong => b"TextTooLong",
+        FaultKind::FileTooLong => b"FileTooLong",
+        FaultKind::BadName => b"BadName",
+        FaultKind::NoFile => b"NoFile",
+        FaultKind::OwnText => b"OwnText",
+        FaultKind::SameOut => b"SameOut",
+        FaultKind::FileOpen => b"FileOpen",
+        FaultKind::HandleOpen => b"HandleOpen",
+        FaultKind::HandleClosed => b"HandleClosed",
+        FaultKind::WrongMode => b"WrongMode",
+        FaultKind::TooManyOpen => b"TooManyOpen",
+        FaultKind::TooManyTasks => b"TooManyTasks",
+        FaultKind::TooManyActions => b"TooManyActions",
+        FaultKind::TooManyNames => b"TooManyNames",
+        FaultKind::BadByte => b"BadByte",
+        FaultKind::StillOpen => b"StillOpen",
     }
 }

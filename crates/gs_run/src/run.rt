@@ -1,87 +1,136 @@
 // The top call.
-ghost use Rattle.std.specs.Prelude.{◌≡◌, ◌≤◌, ◌⊎◌, ◌++◌, ℕ, List, map, Result, Ok, Err};
+ghost use Rattle.std.specs.Prelude.{◌≡◌, ◌≤◌, ◌⊎◌, ◌++◌, ℕ, List, map, Result, Err, IfOk};
 ghost use Rattle.std.specs.String.{string_bytes};
 ghost use Rattle.gs_types.specs.Counts.{Rises};
-ghost use Rattle.gs_form.specs.declared.program.Step.{Step};
+ghost use Rattle.gs_types.specs.History.{History};
+ghost use Rattle.gs_idl.specs.Interface.{Interface};
+ghost use Rattle.gs_tree.specs.Program.{Program};
+ghost use Rattle.gs_check.specs.Passing.{program_in, interface_in};
 ghost use Rattle.gs_form.specs.declared.worker.Worker.{Worker};
 ghost use Rattle.gs_site.specs.Link.{IsIdle};
 ghost use Rattle.gs_site.specs.Site.{disk_of, link_of};
-ghost use Rattle.gs_run.specs.Checking.{RanCheck, HoldsBoth};
-ghost use Rattle.gs_run.specs.Ran.{IsNoCheck, Ran, IsServed};
+ghost use Rattle.gs_talk.specs.declared.question.Question as question;
+ghost use Rattle.gs_talk.specs.Seq.{EndsIn};
+ghost use Rattle.gs_main.specs.Talking.{first_talking};
+ghost use Rattle.gs_main.specs.Shown.{talking};
+ghost use Rattle.gs_types.specs.declared.limits.TheConstants as limit;
+ghost use Rattle.gs_run.specs.Asked.{Wish, Asks, wish_of, IsNoRun, IsNothing};
+ghost use Rattle.gs_run.specs.Checking.{HoldsBoth};
+ghost use Rattle.gs_run.specs.Did.{Did};
+ghost use Rattle.gs_run.specs.Ran.{Ran, run_in, IsStatusOf};
+ghost use Rattle.gs_run.specs.Served.{Served};
 ghost use Rattle.gs_run.specs.Stop.{status_of, message_of};
-ghost use Rattle.gs_run.specs.Words.{IsRun, IsCheck};
+ghost use Rattle.gs_run.specs.Words.{IsRun, IsCheck, IsUsage};
 ghost use Rattle.gs_run.specs.declared.stop.Stop.{Stop};
 
 use crate::Stop;
-use crate::carry::{Halt, carry_out};
 use crate::checking::check_texts;
+use crate::handing::{hand_over, halted, handed};
 use crate::judge::judge;
+use crate::refusal::stopped;
 use crate::words::{Command, Words, read_words};
-use crate::writing::write_files;
-use gs_disk::{Disk, DiskErr};
+use gs_check::Checked;
+use gs_disk::Disk;
+use gs_main::Main;
+use gs_serial::carry_out;
 use gs_site::{Link, Site};
-use gs_types::Sink;
+use gs_types::{FUEL_DEFAULT, NoMemory, Sink};
 use std::alloc::Global;
 
-fn attempt<D: Disk, K: Link>(
-    alloc: Global,
-    words: &Words,
-    site: &mut Site<D, K>,
-) -> Result<(), Stop>
-    requires { IsIdle (K.jobs (link_of site.old)) }
-    ensures idle { IsIdle (K.jobs (link_of site.new)) }
-    ensures ran { (ws : List (List ℕ)) → IsRun ws words.now.idl words.now.program words.now.workers → Ran D.tells (D.state (disk_of site.old)) (D.state (disk_of site.new)) (K.L.meaning (K.law (link_of site.old))) (K.tells (link_of site.old)) (K.tells (link_of site.new)) (K.faults (link_of site.old)) (K.faults (link_of site.new)) ws result }
-    ensures disk_rise { (D.state (disk_of site.old)).faults ≤ (D.state (disk_of site.new)).faults }
-    ensures link_rise { K.faults (link_of site.old) ≤ K.faults (link_of site.new) }
+/// The program at its beginning, with the default fuel.
+fn begin(alloc: Global, words: &Words, checked: Checked) -> Result<Main, NoMemory>
+    ensures { IfOk result (λ m. talking m ≡ first_talking words.now.idl words.now.program
+        (interface_in checked) (program_in checked) limit.FUEL_DEFAULT) }
 {
-    let plan = match judge(alloc, site.disk(), words) {
-        Ok(plan) => plan,
-        Err(stop) => return Err(stop),
-    };
-    let changed = match carry_out(
+    Main::new(
         alloc,
-        site,
-        &plan.worker.program,
-        &plan.steps,
-        &plan.originals,
-    ) {
-        Ok(changed) => changed,
-        Err(Halt::Lost { n }) => return Err(Stop::Lost { n }),
-        Err(Halt::Memory) => return Err(Stop::Memory),
-    };
-    match write_files(site.disk(), &changed) {
-        Ok(()) => Ok(()),
-        Err(DiskErr::Fault) => Err(Stop::Disk),
-        Err(DiskErr::Memory) => Err(Stop::Memory),
-    }
+        checked,
+        words.idl.copy(),
+        words.program.copy(),
+        FUEL_DEFAULT,
+    )
 }
 
-/// Serves the words of a command.
-fn serve<D: Disk, K: Link, O: Sink>(
+/// Carries out the texts of these names.
+fn attempt<D: Disk, K: Link, O: Sink>(
     alloc: Global,
-    words: &Vec<String>,
+    words: &Words,
     site: &mut Site<D, K>,
     out: &mut O,
 ) -> Result<(), Stop>
     requires { IsIdle (K.jobs (link_of site.old)) }
     ensures idle { IsIdle (K.jobs (link_of site.new)) }
-    ensures out { IsNoCheck (map string_bytes words.now.items) → out.new ≡ out.old }
-    ensures ran { IsNoCheck (map string_bytes words.now.items) → Ran D.tells (D.state (disk_of site.old)) (D.state (disk_of site.new)) (K.L.meaning (K.law (link_of site.old))) (K.tells (link_of site.old)) (K.tells (link_of site.new)) (K.faults (link_of site.old)) (K.faults (link_of site.new)) (map string_bytes words.now.items) result }
-    ensures checked { (i p : List ℕ) → IsCheck (map string_bytes words.now.items) i p → RanCheck D.tells O.tells (D.state (disk_of site.old)) (D.state (disk_of site.new)) (O.faults out.old) (O.faults out.new) (O.written out.old) (O.written out.new) i p result }
-    ensures link { (i p : List ℕ) → IsCheck (map string_bytes words.now.items) i p → link_of site.new ≡ link_of site.old }
+    ensures ran { Ran D.tells O.tells (D.state (disk_of site.old)) (D.state (disk_of site.new))
+        (K.L.meaning (K.law (link_of site.old)))
+        (K.tells (link_of site.old)) (K.tells (link_of site.new))
+        (K.faults (link_of site.old)) (K.faults (link_of site.new))
+        (O.faults out.old) (O.faults out.new) (O.written out.old) (O.written out.new)
+        words.now.idl words.now.program words.now.workers result }
 {
-    match read_words(words) {
-        Ok(Command::Run { words }) => attempt(alloc, &words, site),
+    let plan = match judge(alloc, site.disk(), words) {
+        Ok(plan) => plan,
+        Err(refusal) => return Err(stopped(refusal)),
+    };
+    let mut main = match begin(alloc, words, plan.checked) {
+        Ok(main) => main,
+        Err(_) => return Err(Stop::Memory),
+    };
+    let changed = match carry_out(alloc, site, &mut main, &plan.worker.program) {
+        Ok(changed) => changed,
+        Err(halt) => return Err(halted(halt)),
+    };
+    handed(hand_over(site.disk(), &changed, main.text(), out))
+}
+
+/// Does what is wished for.
+fn serve<D: Disk, K: Link, O: Sink>(
+    alloc: Global,
+    command: Result<Command, usize>,
+    site: &mut Site<D, K>,
+    out: &mut O,
+) -> Result<(), Stop>
+    requires { IsIdle (K.jobs (link_of site.old)) }
+    ensures idle { IsIdle (K.jobs (link_of site.new)) }
+    ensures did { Did D.tells O.tells (D.state (disk_of site.old)) (D.state (disk_of site.new))
+        (K.L.meaning (K.law (link_of site.old)))
+        (K.tells (link_of site.old)) (K.tells (link_of site.new))
+        (K.faults (link_of site.old)) (K.faults (link_of site.new))
+        (O.faults out.old) (O.faults out.new) (O.written out.old) (O.written out.new)
+        (wish_of command) result }
+    ensures link { IsNoRun (wish_of command) → link_of site.new ≡ link_of site.old }
+    ensures refused { IsNothing (wish_of command)
+        → (disk_of site.new ≡ disk_of site.old) × (out.new ≡ out.old) }
+{
+    match command {
+        Ok(Command::Run { words }) => attempt(alloc, &words, site, out),
         Ok(Command::Check { words }) => check_texts(alloc, site.disk(), &words, out),
         Err(word) => Err(Stop::Usage { word }),
     }
 }
 
-/// Serves the words `run IDL PROGRAM WORKERS` or `check IDL PROGRAM` on a site with no job in flight, and leaves none.
-/// Gives the exit status: 0 where all was done; 2 where the words have no such reading; 3 where a text is absent; 4
-/// where one goes wrong, or says what isn't carried out yet; 9 where a task was lost; 10 where the disk failed; 11 where
-/// the output failed; 12 where memory was wanting. At each status but 0 it writes the status's line to `err`. To `out`
-/// goes nothing but what `check` prints: the interface, and then the program.
+/// The status, with its line on `err`.
+fn report<E: Sink>(answer: Result<(), Stop>, err: &mut E) -> u8
+    ensures status { result ≡ status_of answer }
+    ensures line { E.tells → (Rises (E.faults err.old) (E.faults err.new) → ⊥)
+        → E.written err.new ≡ E.written err.old ++ message_of answer }
+{
+    match answer {
+        Ok(()) => 0,
+        Err(stop) => {
+            let _ = stop.tell(err);
+            stop.status()
+        }
+    }
+}
+
+/// Serves the words `run IDL PROGRAM WORKERS` or `check IDL PROGRAM` on a site with no job in
+/// flight, and leaves none. Gives the exit status: 0 where all was done; 2 where the words have no
+/// such reading; 3 where a text is absent; 4 where one goes wrong, or a worker list has a form that
+/// isn't carried out yet; 7 where the program met a fault; 8 where its fuel of 10,000,000 steps ran
+/// out; 9 where a task was lost; 10 where the disk failed; 11 where the output failed; 12 where
+/// memory was wanting. At each status but 0 it writes the status's line to `err`. To `out` goes what
+/// the program prints, once its files are written; or what `check` prints: the interface, and then
+/// the program.
 pub fn gs<D: Disk, K: Link, O: Sink, E: Sink>(
     alloc: Global,
     words: &Vec<String>,
@@ -91,22 +140,40 @@ pub fn gs<D: Disk, K: Link, O: Sink, E: Sink>(
 ) -> u8
     requires idle { IsIdle (K.jobs (link_of site.old)) }
     ensures idle { IsIdle (K.jobs (link_of site.new)) }
-    ensures out { IsNoCheck (map string_bytes words.now.items) → out.new ≡ out.old }
-    ensures did { (answer : Result Unit Stop) × (result ≡ status_of answer)
-        × (E.tells → (Rises (E.faults err.old) (E.faults err.new) → ⊥) → E.written err.new ≡ E.written err.old ++ message_of answer)
-        × (IsNoCheck (map string_bytes words.now.items) → Ran D.tells (D.state (disk_of site.old)) (D.state (disk_of site.new)) (K.L.meaning (K.law (link_of site.old))) (K.tells (link_of site.old)) (K.tells (link_of site.new)) (K.faults (link_of site.old)) (K.faults (link_of site.new)) (map string_bytes words.now.items) answer)
-        × ((i p : List ℕ) → IsCheck (map string_bytes words.now.items) i p → RanCheck D.tells O.tells (D.state (disk_of site.old)) (D.state (disk_of site.new)) (O.faults out.old) (O.faults out.new) (O.written out.old) (O.written out.new) i p answer) }
-    ensures link { (i p : List ℕ) → IsCheck (map string_bytes words.now.items) i p → link_of site.new ≡ link_of site.old }
-    ensures complete { D.tells → IsServed (map string_bytes words.now.items) (D.state (disk_of site.old)).folder (λ steps worker. Unit {0})
-        → (Rises (D.state (disk_of site.old)).faults (D.state (disk_of site.new)).faults → ⊥) → (Rises (K.faults (link_of site.old)) (K.faults (link_of site.new)) → ⊥) → (result ≡ 0) ⊎ (result ≡ 12) }
-    ensures checks { D.tells → (i p : List ℕ) → IsCheck (map string_bytes words.now.items) i p → HoldsBoth (D.state (disk_of site.old)).folder i p
-        → (Rises (D.state (disk_of site.old)).faults (D.state (disk_of site.new)).faults → ⊥) → (Rises (O.faults out.old) (O.faults out.new) → ⊥) → (result ≡ 0) ⊎ (result ≡ 12) }
+    ensures did { (wish : Wish) × (answer : Result Unit Stop)
+        × Asks (map string_bytes words.now.items) wish × (result ≡ status_of answer)
+        × Did D.tells O.tells (D.state (disk_of site.old)) (D.state (disk_of site.new))
+        (K.L.meaning (K.law (link_of site.old)))
+        (K.tells (link_of site.old)) (K.tells (link_of site.new))
+        (K.faults (link_of site.old)) (K.faults (link_of site.new))
+        (O.faults out.old) (O.faults out.new) (O.written out.old) (O.written out.new) wish answer
+        × (E.tells → (Rises (E.faults err.old) (E.faults err.new) → ⊥)
+        → E.written err.new ≡ E.written err.old ++ message_of answer)
+        × (IsNoRun wish → link_of site.new ≡ link_of site.old)
+        × (IsNothing wish → (disk_of site.new ≡ disk_of site.old) × (out.new ≡ out.old)) }
+
+    // A run that ends, and no fault: its status, or want of memory.
+    ensures complete { D.tells → (idl program workers : List ℕ)
+        → IsRun (map string_bytes words.now.items) idl program workers
+        → (i : Interface) (p : Program) (worker : Worker)
+        → Served (D.state (disk_of site.old)).folder idl program workers i p worker
+        → (k : ℕ) (q : question.Question)
+        → EndsIn (run_in idl program i p (K.L.meaning (K.law (link_of site.old)))
+        (D.state (disk_of site.old)).folder) k q
+        → (past : History) → K.tells (link_of site.old) past
+        → (Rises (D.state (disk_of site.old)).faults (D.state (disk_of site.new)).faults → ⊥)
+        → (Rises (K.faults (link_of site.old)) (K.faults (link_of site.new)) → ⊥)
+        → (Rises (O.faults out.old) (O.faults out.new) → ⊥)
+        → IsStatusOf q result ⊎ (result ≡ 12) }
+
+    // The same of a check.
+    ensures checks { D.tells → (idl program : List ℕ)
+        → IsCheck (map string_bytes words.now.items) idl program
+        → HoldsBoth (D.state (disk_of site.old)).folder idl program
+        → (Rises (D.state (disk_of site.old)).faults (D.state (disk_of site.new)).faults → ⊥)
+        → (Rises (O.faults out.old) (O.faults out.new) → ⊥) → (result ≡ 0) ⊎ (result ≡ 12) }
 {
-    match serve(alloc, words, site, out) {
-        Ok(()) => 0,
-        Err(stop) => {
-            let _ = stop.tell(err);
-            stop.status()
-        }
-    }
+    let command = read_words(words);
+    let answer = serve(alloc, command, site, out);
+    report(answer, err)
 }

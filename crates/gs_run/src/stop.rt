@@ -1,14 +1,15 @@
 // Why a call of `gs` stops.
 ghost use Rattle.std.specs.Prelude.{◌≡◌, ◌≤◌, ◌++◌, OnOk, OnErr, Err, decimal, codes, ◌∷◌, []};
-ghost use Rattle.gs_run.specs.Kinds.{kind_text};
+ghost use Rattle.gs_run.specs.Kinds.{kind_text, fault_kind_text};
 ghost use Rattle.gs_types.specs.Counts.{Rises};
 
-use crate::kinds::{TextKind, kind_text};
-use gs_types::{Name, Sink, SinkFailed, put_all};
+use crate::kinds::{TextKind, fault_kind_text, kind_text};
+use gs_types::{FaultKind, Name, Sink, SinkFailed, put_all};
 use itoa::Buffer;
 
 /// Why a call of `gs` stops before it is done: the words have no reading, from the word at this place on; a text is
-/// absent; a text goes wrong, on a line, from 1, or as a whole, on line 0; a task was lost; the disk failed; the
+/// absent; a text goes wrong, on a line, from 1, or as a whole, on line 0; the program met a fault on a line, or its
+/// fuel ran out; a task was lost; the disk failed; the
 /// output failed; memory was wanting.
 #[derive(Drop)]
 pub enum Stop {
@@ -22,6 +23,13 @@ pub enum Stop {
         name: Name,
         line: u32,
         kind: TextKind,
+    },
+    Fault {
+        line: u32,
+        kind: FaultKind,
+    },
+    FuelOut {
+        fuel: u64,
     },
     Lost {
         n: u32,
@@ -46,6 +54,8 @@ impl Stop {
                 line: _,
                 kind: _,
             } => 4,
+            Stop::Fault { line: _, kind: _ } => 7,
+            Stop::FuelOut { fuel: _ } => 8,
             Stop::Lost { n: _ } => 9,
             Stop::Disk => 10,
             Stop::Sink => 11,
@@ -69,6 +79,13 @@ impl Stop {
             ),
             Stop::NoText { name } => tell_parts(err, b"gs: no text: ", name.bytes(), b"\n"),
             Stop::BadText { name, line, kind } => tell_bad_text(err, name, *line, *kind),
+            Stop::Fault { line, kind } => tell_fault(err, *line, *kind),
+            Stop::FuelOut { fuel } => tell_parts(
+                err,
+                b"gs: fuel out: ",
+                buffer.format(*fuel).as_bytes(),
+                b"\n",
+            ),
             Stop::Lost { n } => tell_parts(
                 err,
                 b"gs: task lost: ",
@@ -111,5 +128,23 @@ fn tell_bad_text<E: Sink>(
     let mut buffer = Buffer::new();
     tell_parts(err, b"gs: bad text: ", name.bytes(), b":")?;
     tell_parts(err, buffer.format(line).as_bytes(), b": ", kind_text(kind))?;
+    put_all(err, b"\n")
+}
+
+fn tell_fault<E: Sink>(err: &mut E, line: u32, kind: FaultKind) -> Result<(), SinkFailed>
+    ensures all { E.tells → OnOk result (E.written err.new ≡ E.written err.old
+        ++ (codes "gs: program fault: line " ++ (decimal line ++ (codes ": "
+        ++ (fault_kind_text kind ++ 10 ∷ []))))) }
+    ensures rise { E.faults err.old ≤ E.faults err.new }
+    ensures cause { OnErr result (Rises (E.faults err.old) (E.faults err.new)) }
+{
+    let mut buffer = Buffer::new();
+    put_all(err, b"gs: program fault: line ")?;
+    tell_parts(
+        err,
+        buffer.format(line).as_bytes(),
+        b": ",
+        fault_kind_text(kind),
+    )?;
     put_all(err, b"\n")
 }

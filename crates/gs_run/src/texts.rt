@@ -3,15 +3,14 @@ ghost use Rattle.std.specs.Prelude.{◌≡◌, ◌≤◌, ℕ, List, Option, IfO
 ghost use Rattle.gs_disk.specs.Folder.{Same};
 ghost use Rattle.gs_disk.specs.Moments.{Passes};
 ghost use Rattle.gs_run.specs.Judging.{IsTextOf, IsFileOf, TextEnds, TextsEnd, TextsTold, InterfaceOf, TreeOf, BothOf, WorkerOf, JudgedOnly};
-ghost use Rattle.gs_run.specs.declared.stop.Stop.TheVariants.{NoText, BadText};
+ghost use Rattle.gs_run.specs.declared.refusal.Refusal.TheVariants.{NoText, BadText};
 ghost use Rattle.gs_run.specs.declared.kinds.TextKind.TheVariants as kind;
 
-use crate::Stop;
-use crate::files::disk_name;
 use crate::kinds::TextKind;
+use crate::refusal::Refusal;
 use crate::words::Words;
 use gs_check::{CheckErr, Checked, check};
-use gs_disk::{Disk, DiskErr, Whole, read_whole};
+use gs_disk::{Disk, DiskErr, DiskName, Whole, read_whole};
 use gs_form::{Worker, read_worker};
 use gs_idl::{Idl, IdlErr, IdlKind};
 use gs_parse::{ParseErr, ParseKind, parse};
@@ -34,7 +33,7 @@ pub(crate) fn read_text<D: Disk>(
     alloc: Global,
     disk: &mut D,
     name: &Name,
-) -> Result<Option<Text>, Stop>
+) -> Result<Option<Text>, Refusal>
     ensures same { D.tells → (D.state disk.new).folder ≡ (D.state disk.old).folder }
     ensures images { D.tells → Passes Same (D.state disk.old) (D.state disk.new) }
     ensures rise { (D.state disk.old).faults ≤ (D.state disk.new).faults }
@@ -42,34 +41,34 @@ pub(crate) fn read_text<D: Disk>(
     ensures text { D.tells → IfOk result (λ t. IsFileOf ((D.state disk.old).folder name.now) t) }
 {
     let mut bytes = Vec::new(alloc);
-    match read_whole(alloc, disk, &disk_name(name), TEXT_LIMIT, &mut bytes) {
+    match read_whole(alloc, disk, &DiskName::of(name.bytes()), TEXT_LIMIT, &mut bytes) {
         Ok(Whole::Absent) => Ok(None),
         Ok(Whole::TooLong { len: _ }) => Ok(Some(Text::Long)),
         Ok(Whole::Read { len: _ }) => Ok(Some(Text::Read {
             bytes: Blob::of(bytes),
         })),
-        Err(DiskErr::Fault) => Err(Stop::Disk),
-        Err(DiskErr::Memory) => Err(Stop::Memory),
+        Err(DiskErr::Fault) => Err(Refusal::Disk),
+        Err(DiskErr::Memory) => Err(Refusal::Memory),
     }
 }
 
-pub(crate) fn no_text(name: &Name) -> Stop
+pub(crate) fn no_text(name: &Name) -> Refusal
     ensures { result ≡ NoText name.now }
 {
-    Stop::NoText { name: name.copy() }
+    Refusal::NoText { name: name.copy() }
 }
 
-pub(crate) fn bad_text(name: &Name, line: u32, kind: TextKind) -> Stop
+pub(crate) fn bad_text(name: &Name, line: u32, kind: TextKind) -> Refusal
     ensures { result ≡ BadText name.now line kind }
 {
-    Stop::BadText {
+    Refusal::BadText {
         name: name.copy(),
         line,
         kind,
     }
 }
 
-fn interface_of(alloc: Global, text: &Text, name: &Name) -> Result<Idl, Stop>
+fn interface_of(alloc: Global, text: &Text, name: &Name) -> Result<Idl, Refusal>
     ensures ends { JudgedOnly result }
     ensures says { (file : Option (List ℕ)) → IsTextOf file text.now → InterfaceOf file name.now result }
 {
@@ -84,12 +83,12 @@ fn interface_of(alloc: Global, text: &Text, name: &Name) -> Result<Idl, Stop>
         Text::Read { bytes } => match gs_idl::read(alloc, bytes.bytes()) {
             Ok(idl) => Ok(idl),
             Err(IdlErr::At { line, kind }) => Err(bad_text(name, line, TextKind::Idl { kind })),
-            Err(IdlErr::NoMemory) => Err(Stop::Memory),
+            Err(IdlErr::NoMemory) => Err(Refusal::Memory),
         },
     }
 }
 
-fn tree_of(alloc: Global, text: &Text, name: &Name) -> Result<Tree, Stop>
+fn tree_of(alloc: Global, text: &Text, name: &Name) -> Result<Tree, Refusal>
     ensures ends { JudgedOnly result }
     ensures says { (file : Option (List ℕ)) → IsTextOf file text.now → TreeOf file name.now result }
 {
@@ -106,7 +105,7 @@ fn tree_of(alloc: Global, text: &Text, name: &Name) -> Result<Tree, Stop>
             Err(ParseErr::At { line, kind }) => {
                 Err(bad_text(name, line, TextKind::Program { kind }))
             }
-            Err(ParseErr::NoMemory) => Err(Stop::Memory),
+            Err(ParseErr::NoMemory) => Err(Refusal::Memory),
         },
     }
 }
@@ -118,7 +117,7 @@ pub(crate) fn checked(
     idl: &Text,
     program_name: &Name,
     program: &Text,
-) -> Result<Checked, Stop>
+) -> Result<Checked, Refusal>
     ensures ends { JudgedOnly result }
     ensures says { (i p : Option (List ℕ)) → IsTextOf i idl.now → IsTextOf p program.now → BothOf i p idl_name.now program_name.now result }
 {
@@ -135,7 +134,7 @@ pub(crate) fn checked(
         Err(CheckErr::At { line, kind }) => {
             Err(bad_text(program_name, line, TextKind::Check { kind }))
         }
-        Err(CheckErr::NoMemory) => Err(Stop::Memory),
+        Err(CheckErr::NoMemory) => Err(Refusal::Memory),
     }
 }
 
@@ -159,8 +158,13 @@ pub(crate) struct Texts {
 
 /// Reads the three texts. `NoText` exactly where one is absent, with the first in the order IDL, program,
 /// worker list.
-pub(crate) fn read_texts<D: Disk>(alloc: Global, disk: &mut D, words: &Words) -> Result<Texts, Stop>
+pub(crate) fn read_texts<D: Disk>(
+    alloc: Global,
+    disk: &mut D,
+    words: &Words,
+) -> Result<Texts, Refusal>
     ensures same { D.tells → (D.state disk.new).folder ≡ (D.state disk.old).folder }
+    ensures images { D.tells → Passes Same (D.state disk.old) (D.state disk.new) }
     ensures rise { (D.state disk.old).faults ≤ (D.state disk.new).faults }
     ensures ends { TextsEnd (D.state disk.old).faults (D.state disk.new).faults result }
     ensures told { D.tells → TextsTold (D.state disk.old).folder words.now.idl words.now.program words.now.workers result }

@@ -2,7 +2,7 @@
 ghost use Rattle.std.specs.Prelude.{◌≡◌, MatchResult, map, codes};
 ghost use Rattle.std.specs.Bool.{Decides};
 ghost use Rattle.std.specs.String.{string_bytes};
-ghost use Rattle.gs_run.specs.Asked.{Asks};
+ghost use Rattle.gs_run.specs.Asked.{Asks, wish_of};
 ghost use Rattle.gs_run.specs.Words.{IsRun, IsCheck, IsUsage, HasVerb, IsNameAt, NoNameAt};
 
 use gs_types::Name;
@@ -82,7 +82,7 @@ fn read_check(words: &Vec<String>) -> Result<CheckWords, usize>
 /// Reads the words of a command: `run IDL PROGRAM WORKERS` or `check IDL PROGRAM`. The error is the place,
 /// from 0, of the first word with which no command goes on, or the number of words where they are too few.
 pub(crate) fn read_words(words: &Vec<String>) -> Result<Command, usize>
-    ensures { Asks (map string_bytes words.now.items) result }
+    ensures { Asks (map string_bytes words.now.items) (wish_of result) }
 {
     if has_verb(words, "run") {
         let run = read_run(words)?;

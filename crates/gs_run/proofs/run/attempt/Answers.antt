@@ -1,57 +1,62 @@
-use Rattle.std.proofs.Common.{◌≤◌, sym, ◌∙◌, ap, subst, Err, Ok, Some, None}
-use Rattle.gs_types.specs.Counts.{Rises}
-use Rattle.gs_types.specs.History.{History}
+use Rattle.std.proofs.Common.{◌≡◌, ◌≤◌, sym, ◌∙◌, ap, subst, refl, Err, Ok, Result}
+use Rattle.gs_check.specs.Passing.{program_in, interface_in}
 use Rattle.gs_site.specs.Site.{disk_of, link_of}
-use Rattle.gs_run.specs.Carried.{Grew, AllEnd, AllTold}
-use Rattle.gs_run.specs.declared.carry.Halt.{Halt}
-use Rattle.gs_run.specs.declared.stop.Stop.TheVariants.{Lost, Disk, Memory}
-use Rattle.gs_run.specs.Files.{content_of}
-use Rattle.gs_run.specs.Ran.{Ran}
-use Rattle.gs_run.proofs.Conclusions.{ran_judged, ran_lost, ran_memory, ran_disk, ran_wanting, ran_done}
+use Rattle.gs_types.specs.declared.limits.TheConstants.{FUEL_DEFAULT}
+use Rattle.gs_main.specs.Shown.{talking}
+use Rattle.gs_serial.specs.Files.{changed_files}
+use Rattle.gs_run.specs.Handing.{handed_as, halted_as}
+use Rattle.gs_run.specs.Showing.{stop_of}
+use Rattle.gs_run.specs.declared.stop.Stop.{Stop}
+use Rattle.gs_run.specs.declared.stop.Stop.TheVariants as stop
+use Rattle.gs_disk.specs.Folder.{DiskState}
+use Rattle.gs_run.proofs.Conclusions.{le_trans, ran_refused, ran_unbegun, ran_halted, ran_handed, ran_as, begins_so, goes_so, plays_so}
 use Rattle.gs_run.proofs.run.attempt.Goals as goal
 
 pub returns-in-Err-clause-ran : goal.returns-in-Err-clause-ran
-returns-in-Err-clause-ran g c = λ ws run.
-    subst (λ d. Ran g.D.Disk.tells (g.D.Disk.state d) (g.D.Disk.state c.judge.new.disk) (g.K.L.Law.meaning (g.K.Link.law (link_of c.args.site.now))) (g.K.Link.tells (link_of c.args.site.now)) (g.K.Link.tells (link_of c.args.site.now)) (g.K.Link.faults (link_of c.args.site.now)) (g.K.Link.faults (link_of c.args.site.now)) ws (Err c.in-Err.stop))
-    c.disk.ensures.value
-    (ran_judged g.D.Disk.tells (g.D.Disk.state c.disk.result.now) (g.D.Disk.state c.judge.new.disk) _ (g.K.Link.tells (link_of c.args.site.now)) _ ws c.args.words.now.idl c.args.words.now.program c.args.words.now.workers c.in-Err.stop run c.in-Err.ensures.ends c.in-Err.ensures.judged c.in-Err.ensures.same)
+returns-in-Err-clause-ran g c =
+    ran_as _ _ (g.D.Disk.state c.disk.result.now) (g.D.Disk.state (disk_of c.args.site.now)) (g.D.Disk.state c.judge.new.disk) _ _ _ _ _ _ _ _ _ _ _ _ (Err (stop_of c.in-Err.refusal)) (Err c.stopped.result) (ap g.D.Disk.state (sym c.disk.ensures.value)) (ap Err c.stopped.ensures)
+    (ran_refused _ _ (g.D.Disk.state c.disk.result.now) (g.D.Disk.state c.judge.new.disk) _ _ _ _ _ _ _ _ c.in-Err.refusal c.in-Err.ensures.ends c.in-Err.ensures.judged c.in-Err.ensures.same)
 
-pub returns-in-Err-Lost-clause-ran : goal.returns-in-Err-Lost-clause-ran
-returns-in-Err-Lost-clause-ran g c = λ ws run.
-    let same = λ (t : g.D.Disk.tells). ap (λ d. (g.D.Disk.state d).folder) c.carry_out.ensures.disk ∙ c.in-Ok.ensures.same t in
-    let rises : Rises (g.K.Link.faults (link_of c.args.site.now)) (g.K.Link.faults (link_of c.carry_out.new.site)) = subst (λ (e : Halt). AllEnd (g.K.Link.faults (link_of c.args.site.now)) (g.K.Link.faults (link_of c.carry_out.new.site)) (Err e)) c.in-Err-Lost.field-0-is c.in-Err-Lost.ensures.ends in
-    let grew : (past : History) → g.K.Link.tells (link_of c.args.site.now) past → Grew (g.K.Link.tells (link_of c.carry_out.new.site)) past (Some c.in-Err-Lost.n) = λ past h. subst (λ (e : Halt). AllTold (g.K.L.Law.meaning (g.K.Link.law (link_of c.args.site.now))) c.in-Ok.plan.worker.program c.in-Ok.plan.steps (content_of c.in-Ok.plan.originals.map) (g.K.Link.tells (link_of c.carry_out.new.site)) past (Err e)) c.in-Err-Lost.field-0-is (c.in-Err-Lost.ensures.told past h) in
-    subst (λ d. Ran g.D.Disk.tells (g.D.Disk.state d) (g.D.Disk.state (disk_of c.carry_out.new.site)) (g.K.L.Law.meaning (g.K.Link.law (link_of c.args.site.now))) (g.K.Link.tells (link_of c.args.site.now)) (g.K.Link.tells (link_of c.carry_out.new.site)) (g.K.Link.faults (link_of c.args.site.now)) (g.K.Link.faults (link_of c.carry_out.new.site)) ws (Err (Lost c.in-Err-Lost.n)))
-    c.disk.ensures.value
-    (ran_lost g.D.Disk.tells (g.D.Disk.state c.disk.result.now) (g.D.Disk.state (disk_of c.carry_out.new.site)) (g.K.L.Law.meaning (g.K.Link.law (link_of c.args.site.now))) (g.K.Link.tells (link_of c.args.site.now)) (g.K.Link.tells (link_of c.carry_out.new.site)) (g.K.Link.faults (link_of c.args.site.now)) (g.K.Link.faults (link_of c.carry_out.new.site)) ws c.args.words.now.idl c.args.words.now.program c.args.words.now.workers c.in-Ok.plan c.in-Err-Lost.n run c.in-Ok.ensures.judged same rises grew)
+pub returns-in-Err-begin-clause-ran : goal.returns-in-Err-begin-clause-ran
+returns-in-Err-begin-clause-ran g c =
+    ran_as _ _ (g.D.Disk.state c.disk.result.now) (g.D.Disk.state (disk_of c.args.site.now)) (g.D.Disk.state c.judge.new.disk) _ _ _ _ _ _ _ _ _ _ _ _ (Err stop.Memory) (Err stop.Memory) (ap g.D.Disk.state (sym c.disk.ensures.value)) refl
+    (ran_unbegun _ _ (g.D.Disk.state c.disk.result.now) (g.D.Disk.state c.judge.new.disk) _ _ _ _ _ _ _ _ c.in-Ok.ensures.same)
 
-pub returns-in-Err-Memory-clause-ran : goal.returns-in-Err-Memory-clause-ran
-returns-in-Err-Memory-clause-ran g c = λ ws run.
-    let same = λ (t : g.D.Disk.tells). ap (λ d. (g.D.Disk.state d).folder) c.carry_out.ensures.disk ∙ c.in-Ok.ensures.same t in
-    let grew : (past : History) → g.K.Link.tells (link_of c.args.site.now) past → Grew (g.K.Link.tells (link_of c.carry_out.new.site)) past None = λ past h. subst (λ (e : Halt). AllTold (g.K.L.Law.meaning (g.K.Link.law (link_of c.args.site.now))) c.in-Ok.plan.worker.program c.in-Ok.plan.steps (content_of c.in-Ok.plan.originals.map) (g.K.Link.tells (link_of c.carry_out.new.site)) past (Err e)) c.in-Err-Memory.field-0-is (c.in-Err-Memory.ensures.told past h) in
-    subst (λ d. Ran g.D.Disk.tells (g.D.Disk.state d) (g.D.Disk.state (disk_of c.carry_out.new.site)) (g.K.L.Law.meaning (g.K.Link.law (link_of c.args.site.now))) (g.K.Link.tells (link_of c.args.site.now)) (g.K.Link.tells (link_of c.carry_out.new.site)) (g.K.Link.faults (link_of c.args.site.now)) (g.K.Link.faults (link_of c.carry_out.new.site)) ws (Err Memory))
-    c.disk.ensures.value
-    (ran_memory g.D.Disk.tells (g.D.Disk.state c.disk.result.now) (g.D.Disk.state (disk_of c.carry_out.new.site)) (g.K.L.Law.meaning (g.K.Link.law (link_of c.args.site.now))) (g.K.Link.tells (link_of c.args.site.now)) (g.K.Link.tells (link_of c.carry_out.new.site)) (g.K.Link.faults (link_of c.args.site.now)) (g.K.Link.faults (link_of c.carry_out.new.site)) ws c.args.words.now.idl c.args.words.now.program c.args.words.now.workers run same grew)
+pub carry_out-requires-clause-begins : goal.carry_out-requires-clause-begins
+carry_out-requires-clause-begins g c = begins_so c.args.words.now.idl c.args.words.now.program (interface_in c.in-Ok.plan.checked) (program_in c.in-Ok.plan.checked) FUEL_DEFAULT (talking c.in-Ok-begin.main) c.in-Ok-begin.ensures
 
-pub returns-in-Ok-write_files-clause-ran : goal.returns-in-Ok-write_files-clause-ran
-returns-in-Ok-write_files-clause-ran g c = λ ws run.
-    let same = λ (t : g.D.Disk.tells). ap (λ d. (g.D.Disk.state d).folder) (c.disk-2.ensures.value ∙ c.carry_out.ensures.disk) ∙ c.in-Ok.ensures.same t in
-    subst (λ d. Ran g.D.Disk.tells (g.D.Disk.state d) (g.D.Disk.state c.write_files.new.disk) (g.K.L.Law.meaning (g.K.Link.law (link_of c.args.site.now))) (g.K.Link.tells (link_of c.args.site.now)) (g.K.Link.tells (link_of c.carry_out.new.site)) (g.K.Link.faults (link_of c.args.site.now)) (g.K.Link.faults (link_of c.carry_out.new.site)) ws (Ok tt))
-    c.disk.ensures.value
-    (ran_done g.D.Disk.tells (g.D.Disk.state c.disk.result.now) (g.D.Disk.state c.disk-2.result.now) (g.D.Disk.state c.write_files.new.disk) (g.K.L.Law.meaning (g.K.Link.law (link_of c.args.site.now))) (g.K.Link.tells (link_of c.args.site.now)) (g.K.Link.tells (link_of c.carry_out.new.site)) (g.K.Link.faults (link_of c.args.site.now)) (g.K.Link.faults (link_of c.carry_out.new.site)) ws c.args.words.now.idl c.args.words.now.program c.args.words.now.workers c.in-Ok.plan (content_of c.in-Ok-carry_out.changed.files.map) run c.in-Ok.ensures.judged same c.in-Ok-carry_out.ensures.only c.in-Ok-carry_out.ensures.told c.in-Ok-write_files.ensures.others c.in-Ok-write_files.ensures.ok)
-
-pub returns-in-Err-Fault-clause-ran : goal.returns-in-Err-Fault-clause-ran
-returns-in-Err-Fault-clause-ran g c = λ ws run.
-    let same = λ (t : g.D.Disk.tells). ap (λ d. (g.D.Disk.state d).folder) (c.disk-2.ensures.value ∙ c.carry_out.ensures.disk) ∙ c.in-Ok.ensures.same t in
-    let le : (g.D.Disk.state c.disk.result.now).faults ≤ (g.D.Disk.state c.disk-2.result.now).faults = subst (λ d. (g.D.Disk.state c.disk.result.now).faults ≤ (g.D.Disk.state d).faults) (sym (c.disk-2.ensures.value ∙ c.carry_out.ensures.disk)) c.in-Ok.ensures.rise in
-    let rises : Rises (g.D.Disk.state c.disk-2.result.now).faults (g.D.Disk.state c.write_files.new.disk).faults = c.write_files.ensures.cause.faults.cause (c.in-Err-Fault.is ∙ ap Err c.in-Err-Fault.field-0-is) in
-    subst (λ d. Ran g.D.Disk.tells (g.D.Disk.state d) (g.D.Disk.state c.write_files.new.disk) (g.K.L.Law.meaning (g.K.Link.law (link_of c.args.site.now))) (g.K.Link.tells (link_of c.args.site.now)) (g.K.Link.tells (link_of c.carry_out.new.site)) (g.K.Link.faults (link_of c.args.site.now)) (g.K.Link.faults (link_of c.carry_out.new.site)) ws (Err Disk))
-    c.disk.ensures.value
-    (ran_disk g.D.Disk.tells (g.D.Disk.state c.disk.result.now) (g.D.Disk.state c.disk-2.result.now) (g.D.Disk.state c.write_files.new.disk) (g.K.L.Law.meaning (g.K.Link.law (link_of c.args.site.now))) (g.K.Link.tells (link_of c.args.site.now)) (g.K.Link.tells (link_of c.carry_out.new.site)) (g.K.Link.faults (link_of c.args.site.now)) (g.K.Link.faults (link_of c.carry_out.new.site)) ws c.args.words.now.idl c.args.words.now.program c.args.words.now.workers c.in-Ok.plan (content_of c.in-Ok-carry_out.changed.files.map) run c.in-Ok.ensures.judged same c.in-Ok-carry_out.ensures.only c.in-Ok-carry_out.ensures.told c.in-Err-Fault.ensures.others le rises)
+pub returns-in-Err-carry_out-clause-ran : goal.returns-in-Err-carry_out-clause-ran
+returns-in-Err-carry_out-clause-ran g c =
+    let idl = c.args.words.now.idl in
+    let program = c.args.words.now.program in
+    let i = interface_in c.in-Ok.plan.checked in
+    let p = program_in c.in-Ok.plan.checked in
+    let old = g.D.Disk.state c.disk.result.now in
+    let mid = g.D.Disk.state c.judge.new.disk in
+    let m = talking c.in-Ok-begin.main in
+    ran_as _ _ (g.D.Disk.state c.disk.result.now) (g.D.Disk.state (disk_of c.args.site.now)) (g.D.Disk.state (disk_of c.carry_out.new.site)) _ _ _ _ _ _ _ _ _ _ _ _ (Err (halted_as c.in-Err-carry_out.halt)) (Err c.halted.result) (ap g.D.Disk.state (sym c.disk.ensures.value)) (ap Err c.halted.ensures)
+    (ran_halted _ _ old mid (g.D.Disk.state (disk_of c.carry_out.new.site)) (g.K.L.Law.meaning (g.K.Link.law (link_of c.args.site.now))) (g.K.Link.tells (link_of c.args.site.now)) (g.K.Link.tells (link_of c.carry_out.new.site)) _ _ _ _ idl program c.args.words.now.workers i p c.in-Ok.plan.worker (talking c.carry_out.new.main).state.text c.in-Err-carry_out.halt
+    c.in-Ok.ensures.judged c.in-Ok.ensures.rise c.in-Err-carry_out.ensures.ends
+    (λ t. c.in-Err-carry_out.ensures.same t ∙ c.in-Ok.ensures.same t)
+    (λ t past h. plays_so idl program i p (g.K.L.Law.meaning (g.K.Link.law (link_of c.args.site.now))) old.folder mid.folder m c.in-Ok.plan.worker.program (talking c.carry_out.new.main).state.text (talking c.carry_out.new.main).state.text (g.K.Link.tells (link_of c.carry_out.new.site)) past (Err c.in-Err-carry_out.halt) c.in-Ok-begin.ensures (c.in-Ok.ensures.same t) refl
+    (c.in-Err-carry_out.ensures.told t past FUEL_DEFAULT h (goes_so idl program i p FUEL_DEFAULT m c.in-Ok-begin.ensures))))
 
 pub returns-clause-ran : goal.returns-clause-ran
-returns-clause-ran g c = λ ws run.
-    let same = λ (t : g.D.Disk.tells). ap (λ d. (g.D.Disk.state d).folder) (c.disk-2.ensures.value ∙ c.carry_out.ensures.disk) ∙ c.in-Ok.ensures.same t in
-    subst (λ d. Ran g.D.Disk.tells (g.D.Disk.state d) (g.D.Disk.state c.write_files.new.disk) (g.K.L.Law.meaning (g.K.Link.law (link_of c.args.site.now))) (g.K.Link.tells (link_of c.args.site.now)) (g.K.Link.tells (link_of c.carry_out.new.site)) (g.K.Link.faults (link_of c.args.site.now)) (g.K.Link.faults (link_of c.carry_out.new.site)) ws (Err Memory))
-    c.disk.ensures.value
-    (ran_wanting g.D.Disk.tells (g.D.Disk.state c.disk.result.now) (g.D.Disk.state c.disk-2.result.now) (g.D.Disk.state c.write_files.new.disk) (g.K.L.Law.meaning (g.K.Link.law (link_of c.args.site.now))) (g.K.Link.tells (link_of c.args.site.now)) (g.K.Link.tells (link_of c.carry_out.new.site)) (g.K.Link.faults (link_of c.args.site.now)) (g.K.Link.faults (link_of c.carry_out.new.site)) ws c.args.words.now.idl c.args.words.now.program c.args.words.now.workers c.in-Ok.plan (content_of c.in-Ok-carry_out.changed.files.map) run c.in-Ok.ensures.judged same c.in-Ok-carry_out.ensures.only c.in-Ok-carry_out.ensures.told c.in-Err-Memory-write_files.ensures.others)
+returns-clause-ran g c =
+    let idl = c.args.words.now.idl in
+    let program = c.args.words.now.program in
+    let i = interface_in c.in-Ok.plan.checked in
+    let p = program_in c.in-Ok.plan.checked in
+    let old = g.D.Disk.state c.disk.result.now in
+    let mid = g.D.Disk.state c.judge.new.disk in
+    let late = g.D.Disk.state c.disk-2.result.now in
+    let here : late ≡ g.D.Disk.state (disk_of c.carry_out.new.site) = ap g.D.Disk.state c.disk-2.ensures.value in
+    let m = talking c.in-Ok-begin.main in
+    ran_as _ _ (g.D.Disk.state c.disk.result.now) (g.D.Disk.state (disk_of c.args.site.now)) (g.D.Disk.state c.hand_over.new.disk) _ _ _ _ _ _ _ _ _ _ _ _ (handed_as c.hand_over.result) c.handed.result (ap g.D.Disk.state (sym c.disk.ensures.value)) c.handed.ensures
+    (ran_handed _ _ old late (g.D.Disk.state c.hand_over.new.disk) (g.K.L.Law.meaning (g.K.Link.law (link_of c.args.site.now))) (g.K.Link.tells (link_of c.args.site.now)) (g.K.Link.tells (link_of c.carry_out.new.site)) _ _ _ _ _ _ idl program c.args.words.now.workers i p c.in-Ok.plan.worker (changed_files c.in-Ok-carry_out.changed) c.text.result.now c.hand_over.result
+    c.in-Ok.ensures.judged
+    (subst (λ (d : DiskState). old.faults ≤ d.faults) (sym here) (le_trans old.faults mid.faults (g.D.Disk.state (disk_of c.carry_out.new.site)).faults c.in-Ok.ensures.rise c.in-Ok-carry_out.ensures.disk_rise))
+    (λ t. ap (λ (d : DiskState). d.folder) here ∙ c.in-Ok-carry_out.ensures.same t ∙ c.in-Ok.ensures.same t)
+    (λ t past h. plays_so idl program i p (g.K.L.Law.meaning (g.K.Link.law (link_of c.args.site.now))) old.folder mid.folder m c.in-Ok.plan.worker.program (talking c.carry_out.new.main).state.text c.text.result.now (g.K.Link.tells (link_of c.carry_out.new.site)) past (Ok c.in-Ok-carry_out.changed) c.in-Ok-begin.ensures (c.in-Ok.ensures.same t) c.text.ensures
+    (c.in-Ok-carry_out.ensures.told t past FUEL_DEFAULT h (goes_so idl program i p FUEL_DEFAULT m c.in-Ok-begin.ensures)))
+    c.hand_over.ensures.ends c.hand_over.ensures.put c.hand_over.ensures.others c.hand_over.ensures.wrote)

@@ -1,19 +1,25 @@
 use Rattle.std.proofs.Common.{◌≡◌, ◌⊎◌, ℕ, map, sym, subst}
 use Rattle.std.specs.String.{string_bytes}
 use Rattle.gs_site.specs.Site.{disk_of, link_of}
-use Rattle.gs_run.proofs.Checks.{checks_through}
-use Rattle.gs_run.proofs.Conclusions.{zero_or_twelve}
-use Rattle.gs_run.proofs.Wording.{not_both}
+use Rattle.gs_run.specs.Asked.{wish_of}
+use Rattle.gs_run.specs.Ran.{IsStatusOf}
+use Rattle.gs_run.proofs.Checks.{checks_so}
+use Rattle.gs_run.proofs.Conclusions.{ends_so, did_run, did_check}
 use Rattle.gs_run.proofs.run.gs.Goals as goal
 
-pub returns-in-Err-clause-complete : goal.returns-in-Err-clause-complete
-returns-in-Err-clause-complete g c = λ told served disk link.
-    let words = map string_bytes c.args.words.now.items in
-    let ran = c.in-Err.ensures.ran (λ i p check. not_both words served.0 served.1 served.2 i p served.3 check) in
-    subst (λ (n : ℕ). (n ≡ 0) ⊎ (n ≡ 12)) (sym c.status.ensures)
-    (zero_or_twelve g.D.Disk.tells (g.D.Disk.state (disk_of c.args.site.now)) (g.D.Disk.state (disk_of c.serve.new.site)) (g.K.L.Law.meaning (g.K.Link.law (link_of c.args.site.now))) (g.K.Link.tells (link_of c.args.site.now)) (g.K.Link.tells (link_of c.serve.new.site)) (g.K.Link.faults (link_of c.args.site.now)) (g.K.Link.faults (link_of c.serve.new.site)) words c.in-Err.stop ran told served disk link)
+pub returns-clause-did : goal.returns-clause-did
+returns-clause-did g c = (wish_of c.read_words-command.result, c.serve-answer.result, c.read_words-command.ensures, c.report.ensures.status, c.serve-answer.ensures.did, c.report.ensures.line, c.serve-answer.ensures.link, c.serve-answer.ensures.refused)
 
-pub returns-in-Err-clause-checks : goal.returns-in-Err-clause-checks
-returns-in-Err-clause-checks g c = λ told i p check holds disk out.
-    subst (λ (n : ℕ). (n ≡ 0) ⊎ (n ≡ 12)) (sym c.status.ensures)
-    (checks_through g.D.Disk.tells g.O.Sink.tells (g.D.Disk.state (disk_of c.args.site.now)) (g.D.Disk.state (disk_of c.serve.new.site)) (g.O.Sink.faults c.args.out.now) (g.O.Sink.faults c.serve.new.out) (g.O.Sink.written c.args.out.now) (g.O.Sink.written c.serve.new.out) i p c.in-Err.stop (c.in-Err.ensures.checked i p check) told holds disk out)
+pub returns-clause-complete : goal.returns-clause-complete
+returns-clause-complete g c = λ told idl program workers run i p worker served k z ends past h disk link out.
+    subst (λ (n : ℕ). IsStatusOf z n ⊎ (n ≡ 12)) (sym c.report.ensures.status)
+    (ends_so _ _ _ _ _ _ _ _ _ _ _ _ _ idl program workers c.serve-answer.result
+    (did_run _ _ _ _ _ _ _ _ _ _ _ _ _ (map string_bytes c.args.words.now.items) (wish_of c.read_words-command.result) idl program workers c.serve-answer.result c.read_words-command.ensures run c.serve-answer.ensures.did)
+    told i p worker served k z ends past h disk link out)
+
+pub returns-clause-checks : goal.returns-clause-checks
+returns-clause-checks g c = λ told idl program check holds disk out.
+    subst (λ (n : ℕ). (n ≡ 0) ⊎ (n ≡ 12)) (sym c.report.ensures.status)
+    (checks_so _ _ _ _ _ _ _ _ idl program c.serve-answer.result
+    (did_check _ _ _ _ _ _ _ _ _ _ _ _ _ (map string_bytes c.args.words.now.items) (wish_of c.read_words-command.result) idl program c.serve-answer.result c.read_words-command.ensures check c.serve-answer.ensures.did)
+    told holds disk out)

@@ -1,5 +1,5 @@
 use Rattle.std.proofs.Common.{◌≡◌, ◌≤◌, ℕ, ◌++◌, List, length, take, subst, ◌∙◌}
-use Rattle.gs_run.proofs.checking.show.Goals as goal
+use Rattle.gs_run.proofs.showing.show.Goals as goal
 
 pub returns-clause-wrote : goal.returns-clause-wrote
 returns-clause-wrote g c = λ told.
