@@ -1,12 +1,12 @@
--- What the tests of names and paths mean.
-use Rattle.std.proofs.Common.{◌≡◌, ℕ, zero, suc, ◌<◌, ◌≤◌, Bool, true, false, not, eqb, leb, List, [], ◌∷◌, length, refl, arith, inl, inr}
-use Rattle.std.specs.Prelude.{◌≢◌, ◌==◌, ◌&&◌, slice_index}
-use Rattle.std.specs.List.{All, AllPass, list_any, list_all}
-use Rattle.std.specs.Str.{bytes_eq}
-use Rattle.std.proofs.lemmas.Bool.{eqb-true, ne_eqb, leb-true, le-leb, and_parts, and_from, or_parts, or_from, cases_Bool}
-use Rattle.std.proofs.lemmas.Slice.Eq.{bytes_eq-Decides}
+-- What the test of paths means.
+use Rattle.std.proofs.Common.{◌≡◌, ℕ, ◌≤◌, Bool, true, false, not, eqb, leb, refl, inl, inr}
+use Rattle.std.proofs.Common.{List, [], ◌∷◌, length}
+use Rattle.std.specs.Prelude.{◌≢◌, ◌==◌, ◌&&◌}
+use Rattle.std.specs.List.{AllPass, list_any, list_all}
+use Rattle.std.proofs.lemmas.Bool.{eqb-true, leb-true, le-leb, cases_Bool}
+use Rattle.std.proofs.lemmas.Bool.{and_parts, and_from, or_parts, or_from}
 use Rattle.std.proofs.lemmas.List.Sums.{AllPass-from_list_all, list_all-from_AllPass}
-use Rattle.std.proofs.lemmas.List.Elements.{All-nil, All-cons, All-weaker, All-from_get_or}
+use Rattle.std.proofs.lemmas.List.Elements.{All-weaker}
 use Rattle.gs_form.specs.Format.{passes}
 use Rattle.gs_form.specs.Forms.{is_path_byte, is_path, IsPath}
 
@@ -18,22 +18,6 @@ not_true false e = refl
 
 pub not_from : (b : Bool) → b ≡ false → not b ≡ true
 not_from b e = rw e refl
-
-pub differs_no : (a b : List ℕ) → bytes_eq a b ≡ false → a ≢ b
-differs_no a b e = λ is. let yes : bytes_eq a b ≡ true = (bytes_eq-Decides a b).1 is in absurd cc
-
-pub no_differs : (a b : List ℕ) → a ≢ b → bytes_eq a b ≡ false
-no_differs a b h =
-    elim (cases_Bool (bytes_eq a b)) [
-      | inl y ↦ absurd (h ((bytes_eq-Decides a b).0 y))
-      | inr n ↦ n
-    ]
-
-pub none_of : {A : Type 0} (p : A → Bool) (xs : List A) → list_any p xs ≡ false → All (λ x. p x ≡ false) xs
-none_of p [] e = All-nil (λ x. p x ≡ false)
-none_of p (x ∷ xs) e =
-    let both = or_parts (p x) (list_any p xs) e in
-    All-cons (λ x. p x ≡ false) x xs both.0 (none_of p xs both.1)
 
 -- ---- paths
 
