@@ -76,10 +76,10 @@ fn an_output_may_not_be_a_text_of_the_run(rt: HostRuntime) -> Result<(), Fail> {
         (b"B", b"b"),
     ];
     let made = run_files(&rt, alloc, &files)?;
-    assert_eq!(rt; made.status, 4);
+    assert_eq!(rt; made.status, 7);
     assert_eq!(rt;
         made.err.bytes(),
-        b"gs: bad text: p.c:0: NotYet\n".as_slice()
+        b"gs: program fault: line 3: OwnText\n".as_slice()
     );
     Ok(())
 }

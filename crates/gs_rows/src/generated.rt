@@ -116,7 +116,7 @@ fn generated_calls_give_what_they_give_one_after_the_other(rt: HostRuntime) -> R
         if carry_out(alloc, &calls, &mut wanted)? {
             assert_eq!(rt; made.status, 0, "seed {seed}");
         } else {
-            assert_eq!(rt; made.status, 4, "seed {seed}");
+            assert_eq!(rt; made.status, 7, "seed {seed}");
             wanted = at_first(alloc)?;
             refused = refused.wrapping_add(1);
         }

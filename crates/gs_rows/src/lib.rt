@@ -4,6 +4,8 @@
 #[cfg(test)]
 mod desk;
 #[cfg(test)]
+mod dialogue;
+#[cfg(test)]
 mod faults;
 #[cfg(test)]
 mod forms;

@@ -19,7 +19,7 @@ const PRINTED: &[u8] =
 fn a_run_reads_texts_by_their_grammars(rt: HostRuntime) -> Result<(), Fail> {
     let alloc = rt.alloc();
     let combination: &[u8] = b"interface K { void f(inout int n); };";
-    let cases: [(&[u8], &[u8], &[u8]); 7] = [
+    let cases: [(&[u8], &[u8], &[u8]); 5] = [
         (
             KIT,
             b"/* joins */ int main(void) {  GS_On(); join((\"A\"), \"B\", // here\n\"C\"); GS_Off(0); return 0; }",
@@ -41,12 +41,6 @@ fn a_run_reads_texts_by_their_grammars(rt: HostRuntime) -> Result<(), Fail> {
             b"main() {\nGS_On();\njoin(\"A\", \"B\"); GS_Off(0); }",
             b"gs: bad text: p.c:3: WrongCount\n",
         ),
-        (
-            KIT,
-            b"main() { GS_On(); grow(\"A\", \"x\"); GS_Off(0); }",
-            b"gs: bad text: p.c:0: NotYet\n",
-        ),
-        (KIT, SHORT, b"gs: bad text: p.c:0: NotYet\n"),
     ];
     for (idl, program, line) in cases {
         let files: [(&[u8], &[u8]); 5] = [

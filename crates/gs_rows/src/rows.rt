@@ -24,7 +24,7 @@ fn two_files_are_joined_into_a_third(rt: HostRuntime) -> Result<(), Fail> {
 }
 
 #[test]
-fn a_file_that_may_not_be_read_counts_against_the_program(rt: HostRuntime) -> Result<(), Fail> {
+fn a_file_that_is_not_there_is_a_fault_of_the_program(rt: HostRuntime) -> Result<(), Fail> {
     let alloc = rt.alloc();
     let program = b"main() {\n    GS_On();\n    join(\"A\", \"X\", \"C\");\n    GS_Off(0);\n}\n";
     let files: [(&[u8], &[u8]); 4] = [
@@ -34,10 +34,10 @@ fn a_file_that_may_not_be_read_counts_against_the_program(rt: HostRuntime) -> Re
         (b"A", b"a"),
     ];
     let made = run_files(&rt, alloc, &files)?;
-    assert_eq!(rt; made.status, 4);
+    assert_eq!(rt; made.status, 7);
     assert_eq!(rt;
         made.err.bytes(),
-        b"gs: bad text: p.c:0: NotYet\n".as_slice()
+        b"gs: program fault: line 3: NoFile\n".as_slice()
     );
     assert_eq!(rt; made.disk.get(&name(&rt, b"C")), None);
     assert!(rt; made.link.past().is_empty());

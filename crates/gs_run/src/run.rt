@@ -25,7 +25,7 @@ ghost use Rattle.gs_run.specs.declared.stop.Stop.{Stop};
 
 use crate::Stop;
 use crate::checking::check_texts;
-use crate::handing::{hand_over, halted, handed};
+use crate::handing::{halted, hand_over, handed};
 use crate::judge::judge;
 use crate::refusal::stopped;
 use crate::words::{Command, Words, read_words};

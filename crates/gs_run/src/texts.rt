@@ -41,7 +41,13 @@ pub(crate) fn read_text<D: Disk>(
     ensures text { D.tells → IfOk result (λ t. IsFileOf ((D.state disk.old).folder name.now) t) }
 {
     let mut bytes = Vec::new(alloc);
-    match read_whole(alloc, disk, &DiskName::of(name.bytes()), TEXT_LIMIT, &mut bytes) {
+    match read_whole(
+        alloc,
+        disk,
+        &DiskName::of(name.bytes()),
+        TEXT_LIMIT,
+        &mut bytes,
+    ) {
         Ok(Whole::Absent) => Ok(None),
         Ok(Whole::TooLong { len: _ }) => Ok(Some(Text::Long)),
         Ok(Whole::Read { len: _ }) => Ok(Some(Text::Read {
