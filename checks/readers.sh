@@ -361,12 +361,23 @@ call='join("A", "B", "C");'
 runs "main() {\n    GS_On();\n    $call\n    GS_Off(0);\n}\n" "main(){GS_On();${call}GS_Off(0);}" \
     "#include <stdio.h>\r\n/* @ */ int main(void) // \"\n{\n\tGS_On ( ) ;\n join\n(\"A\" /* , */\n, \"B\",\"C\" ) ; GS_Off(0); return 0; } //" \
     "main() { GS_On(); $call join(\"B\", \"C\", \"D\"); join(\"A\", \"B\", \"C\"); GS_Off(0); }"
-straight() { for text; do bad_run p.c:0:\ NotYet "main() {\n GS_On(); $call\n$text\nGS_Off(0); }"; done; }
-bad_run 'p.c:0: NotYet' "main() { int n;\nGS_On(); $call GS_Off(0); }" "main() { int n = 1; GS_On(); $call GS_Off(0); }" "main() { int n; n = 1; GS_On(); $call GS_Off(0); }" \
-    'main() { char *s; GS_On();\njoin("A", s, "C"); GS_Off(0); }' "main() { FILE *f; GS_On(); $call GS_Off(0); }"
+runs "main() { int n;\nGS_On(); $call GS_Off(0); }" "main() { int n = 1; GS_On(); $call GS_Off(0); }" "main() { int n; n = 1; GS_On(); $call GS_Off(0); }" \
+    "main() { FILE *f; GS_On(); $call GS_Off(0); }"
+# statements behind the call: they run, or are a fault of the program on line 3, and then no C is made
+fine() { for text; do runs "main() {\n GS_On(); $call\n$text\nGS_Off(0); }"; done; }
+fault_run() { kind=$1; shift; for text; do run_each 7 "gs: program fault: line 3: $kind" '' "main() { char *s; GS_On(); $call\n\n$text\nGS_Off(0); }"; done; }
 n201=$(letters 201)
-straight 'if (1) ;' ';' '{ }' "{ $call }" 'while (0) { }' 'for (; 0; ) { }' 'GS_Barrier();' 'printf("a");' 'set(1, "D");' 'say("a", "D");' 'join("A/B", "B", "D");' 'join("", "B", "D");' \
-    'join("A", "B", ".D");' 'join("A b", "B", "D");' "join(\"A\", \"B\", \"$n201\");" 'join("A", "B", "k.idl");' 'join("A", "B", "p.c");' 'both("p.c", "D");' 'two("D", "D");' 'both("A", "A");' 'join("A", "none", "D");'
+printf 'printf %%s "$1" > "$2"\n' > set; cp set say
+fine 'if (1) ;' ';' '{ }' "{ $call }" 'while (0) { }' 'for (; 0; ) { }' 'GS_Barrier();' 'set(1, "D");' 'say("a", "D");'
+[ "$(cat D)" = a ] || { echo "FAILED D is '$(cat D)'"; failed=1; }
+rm D
+fault_run BadName 'join("A/B", "B", "D");' 'join("", "B", "D");' 'join("A", "B", ".D");' 'join("A b", "B", "D");' "join(\"A\", \"B\", \"$n201\");" 'join("A", s, "D");'
+fault_run OwnText 'join("A", "B", "k.idl");' 'join("A", "B", "p.c");' 'both("p.c", "D");'
+fault_run SameOut 'two("D", "D");' 'both("A", "A");'
+fault_run NoFile 'join("A", "none", "D");'
+[ ! -e D ] || { echo "FAILED D is there"; failed=1; }
+printf 'n=1' > .print
+runs "main() { int n = 1; GS_On(); $call printf(\"n=%%d\", n); GS_Off(0); }"
 bad_run 'p.c:2: Unexpected' "main() { GS_On();\n+ GS_Off(0); }" "main() {\n$call GS_On(); GS_Off(0); }"
 bad_run 'p.c:3: BadEscape' 'main() { GS_On(); /*\n*/\njoin("\\q", "B", "C"); GS_Off(0); }'
 bad_run 'p.c:2: Unknown' "main() { GS_On(); $call\njoint(\"A\"); GS_Off(0); }" 'main() { int n; GS_On();\nn = zz; GS_Off(0); }'
@@ -374,7 +385,6 @@ bad_run 'p.c:2: WrongCount' "main() { GS_On(); ;\njoin(\"A\"); GS_Off(0); }"
 bad_run 'p.c:0: TooLong' "main() { GS_On(); $call GS_Off(0); } $(wide 65536)"
 printf 'w1 2 sh\n' > w.txt
 bad_run 'w.txt:0: NotYet' "main() { GS_On(); $call GS_Off(0); }"
-straight ';'
 kit='interface KIT {\nvoid join(inout int n); };'
 bad_run 'k.idl:2: BadCombination' "@"
 kit=$(wide 65537)

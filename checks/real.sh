@@ -48,8 +48,8 @@ fresh; rm k.idl; case_of "no IDL" 3 "gs: no text: k.idl$lf" $run; gone "no IDL" 
 fresh; rm w.txt; case_of "no worker list" 3 "gs: no text: w.txt$lf" $run; gone "no list" C
 fresh; printf ' // end' >> p.c; case_of "a comment behind the program" 0 "" $run; same comment C xy
 fresh; printf '}' >> p.c; case_of "a brace behind the program" 4 "gs: bad text: p.c:6: Unexpected$lf" $run; gone brace C
-fresh; printf 'main() { int n; GS_On(); GS_Off(0); }' > p.c; case_of "a program that declares" 4 "gs: bad text: p.c:0: NotYet$lf" $run
-fresh; rm B; case_of "a file that can't be read" 4 "gs: bad text: p.c:0: NotYet$lf" $run; gone "no B" C
+fresh; printf 'main() { int n; GS_On(); GS_Off(0); }' > p.c; case_of "a program that declares and calls nothing" 0 "" $run; gone declares C
+fresh; rm B; case_of "a file that isn't there" 7 "gs: program fault: line 3: NoFile$lf" $run; gone "no B" C
 fresh; printf 'exit 1\n' > join; printf old > C; case_of "a program that ends with 1" 9 "gs: task lost: 1$lf" $run; same "ends with 1" C old
 fresh; printf 'exit 0\n' > join; case_of "an output left out" 9 "gs: task lost: 1$lf" $run; gone "left out" C
 fresh; printf 'w1 2 ./absent *\n' > w.txt; case_of "a program that doesn't exist" 9 "gs: task lost: 1$lf" $run; gone absent C
@@ -64,6 +64,20 @@ odd=ABCDEFGHIJKLMNOPQRSTUVWXYZabcdefghijklmnopqrstuvwxyz0123456789._-
 printf 'odd' > "$odd"
 sed "s/\"A\"/\"$odd\"/; s/\"C\"/\"-$odd\"/" p.c > q && mv q p.c
 case_of "names with every byte" 0 "" $run; same odd "./-$odd" oddxy
+
+# a program that loops, prints, and reads what tasks left
+fresh
+printf 'interface K { void add(inout File f, in string s, in int n); void count(in File f, out int n); };' > k.idl
+printf 'main() { int i; int n; char *s; FILE *f; GS_On(); for (i = 0; i < 3; i++) { sprintf(s, "<%%d>", i); add("A", s, i); }\ncount("A", &n); printf("%%d bytes\\n", n); f = GS_FOpen("A", R); i = fgetline(f, s); GS_FClose(f); printf("%%s\\n", s); GS_Off(0); }' > p.c
+printf 'printf "%%s%%s" "$2" "$3" >> "$1"\n' > add
+printf 'printf %%s "$(wc -c < "$1")" > "$2"\n' > count
+"$gs" $run > .out 2> .err
+if [ $? -eq 0 ] && [ "$(cat .out)" = "12 bytes
+<0>0<1>1<2>2" ] && [ ! -s .err ]; then echo "ok a program that loops and prints"; else echo "FAILED a program that loops and prints: $(cat .out .err)"; failed=1; fi
+same loops A "<0>0<1>1<2>2"
+"$gs" $run > /dev/full 2> .err
+if [ $? -eq 11 ] && [ "$(cat .err)" = "gs: sink fault" ]; then echo "ok a run whose output fails"; else echo "FAILED a run whose output fails: $(cat .err)"; failed=1; fi
+same "output fails" A "<0>0<1>1<2>2<0>0<1>1<2>2"
 
 # the command check: one case of each status
 fresh; "$gs" check k.idl p.c > .out 2> .err
@@ -84,7 +98,7 @@ case_of "an input of 16,777,216 bytes" 0 "" $run
 cmp -s A C || { echo "FAILED the long input: C differs"; failed=1; }
 fresh
 head -c 16777217 /dev/zero > A
-case_of "an input of one byte more" 4 "gs: bad text: p.c:0: NotYet$lf" $run; gone long C
+case_of "an input of one byte more" 7 "gs: program fault: line 3: FileTooLong$lf" $run; gone long C
 
 [ $failed -eq 0 ] && echo "all ok"
 exit $failed

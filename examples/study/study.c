@@ -1,13 +1,11 @@
 main() {
+    int i;
     GS_On();
-    subst("base.cfg", "v1", "job.tmp");
-    simulate("job.tmp", "res.tmp");
-    post("res.tmp", "all.txt");
-    subst("base.cfg", "v2", "job.tmp");
-    simulate("job.tmp", "res.tmp");
-    post("res.tmp", "all.txt");
-    subst("base.cfg", "v3", "job.tmp");
-    simulate("job.tmp", "res.tmp");
-    post("res.tmp", "all.txt");
+    for (i = 1; i <= 3; i++) {
+        subst("base.cfg", i, "job.tmp");
+        simulate("job.tmp", "res.tmp");
+        post("res.tmp", "all.txt");
+    }
+    printf("%d runs\n", i - 1);
     GS_Off(0);
 }
