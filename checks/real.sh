@@ -65,6 +65,8 @@ printf 'odd' > "$odd"
 sed "s/\"A\"/\"$odd\"/; s/\"C\"/\"-$odd\"/" p.c > q && mv q p.c
 case_of "names with every byte" 0 "" $run; same odd "./-$odd" oddxy
 
+fresh; printf 'main() { GS_On(); while (1) { } GS_Off(0); }' > p.c; case_of "an endless loop" 8 "gs: fuel out: 10000000$lf" $run
+
 # a program that loops, prints, and reads what tasks left
 fresh
 printf 'interface K { void add(inout File f, in string s, in int n); void count(in File f, out int n); };' > k.idl
