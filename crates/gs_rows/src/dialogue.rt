@@ -7,7 +7,7 @@ use std::test::Fail;
 const KIT: &[u8] =
     b"interface KIT {\n    void join(in File a, in File b, out File c);\n    void grow(inout File f, in string s);\n    void count(in File f, out int n);\n};\n";
 
-// Each file grows until it is one byte longer than the one before.
+// Each file grows until it has more bytes than its number.
 const STUDY: &[u8] = b"main() {
     int i;
     int n;
@@ -50,13 +50,13 @@ fn a_study_leaves_its_files_and_prints(rt: HostRuntime) -> Result<(), Fail> {
     let made = study(&rt, alloc, STUDY)?;
     assert_eq!(rt; made.status, 0);
     assert!(rt; made.err.bytes().is_empty());
-    assert!(rt; reads(&rt, &made.disk, b"F1", b"xy"));
-    assert!(rt; reads(&rt, &made.disk, b"F2", b"xyy"));
-    assert!(rt; reads(&rt, &made.disk, b"F3", b"xyyy"));
+    assert!(rt; reads(&rt, &made.disk, b"F1", b"x\n"));
+    assert!(rt; reads(&rt, &made.disk, b"F2", b"x\ny\n"));
+    assert!(rt; reads(&rt, &made.disk, b"F3", b"x\ny\n"));
     assert!(rt; reads(&rt, &made.disk, b"LOG", b"done 4\n"));
-    assert_eq!(rt; made.out.bytes(), b"F1 2\nF2 3\nF3 4\n".as_slice());
-    // nine calls of grow and nine of count, each started and finished
-    assert_eq!(rt; made.link.past().len(), 36);
+    assert_eq!(rt; made.out.bytes(), b"F1 2\nF2 4\nF3 4\n".as_slice());
+    // five calls of grow and five of count, each started and finished
+    assert_eq!(rt; made.link.past().len(), 20);
     Ok(())
 }
 
@@ -88,7 +88,7 @@ fn a_program_reads_what_tasks_and_it_itself_wrote(rt: HostRuntime) -> Result<(),
     let made = study(&rt, alloc, program)?;
     assert!(rt; made.err.bytes().is_empty());
     assert_eq!(rt; made.status, 0);
-    assert!(rt; reads(&rt, &made.disk, b"F1", b"7\nlast!"));
+    assert!(rt; reads(&rt, &made.disk, b"F1", b"7\nlast!\n"));
     assert_eq!(rt; made.out.bytes(), b"[7][last!]8".as_slice());
     Ok(())
 }
@@ -96,7 +96,7 @@ fn a_program_reads_what_tasks_and_it_itself_wrote(rt: HostRuntime) -> Result<(),
 #[test]
 fn each_fault_of_a_program_has_its_line_and_leaves_the_files(rt: HostRuntime) -> Result<(), Fail> {
     let alloc = rt.alloc();
-    let cases: [(&[u8], &[u8]); 7] = [
+    let cases: [(&[u8], &[u8]); 6] = [
         (b"n = 1 / n;", b"gs: program fault: line 2: ZeroDivisor\n"),
         (
             b"n = 9223372036854775807;\nn++;",
@@ -118,7 +118,6 @@ fn each_fault_of_a_program_has_its_line_and_leaves_the_files(rt: HostRuntime) ->
             b"f = GS_FOpen(\"F1\", W);",
             b"gs: program fault: line 2: StillOpen\n",
         ),
-        (b"while (1) { }", b"gs: fuel out: 10000000\n"),
     ];
     for (statement, line) in cases {
         let mut program = Vec::new(alloc);
@@ -127,8 +126,7 @@ fn each_fault_of_a_program_has_its_line_and_leaves_the_files(rt: HostRuntime) ->
         program.extend_from_slice(b" GS_Off(0); }\n")?;
         let made = study(&rt, alloc, &program)?;
         assert_eq!(rt; made.err.bytes(), line);
-        let fuel = line.starts_with(b"gs: fuel");
-        assert_eq!(rt; made.status, if fuel { 8 } else { 7 });
+        assert_eq!(rt; made.status, 7);
         assert!(rt; reads(&rt, &made.disk, b"F1", b""));
         assert!(rt; made.out.bytes().is_empty());
     }
