@@ -1,0 +1,10 @@
+pub mod Events
+pub mod Opening
+pub mod Dependences
+pub mod Losing
+pub mod Flights
+pub mod Deadlock
+pub mod Called
+pub mod Needing
+pub mod Ending
+pub mod Fitting
