@@ -163,8 +163,8 @@ impl Queue {
         ensures ready { ready_of self.new ≡ put_in r (ready_of self.old) }
         ensures failures { (m : ℕ) → failures_of self.new m ≡
             (if r.n == m then min (failures_of self.old m + 1) most else failures_of self.old m) }
-        ensures lapses { (u op : ℕ) → takes_of self.old u op ≡ true →
-            lapses_of self.new u ≡ min (lapses_of self.old u + is_on (job_of self.old r.n) u) most }
+        ensures lapses { (u op : ℕ) → takes_of self.old u op ≡ true → lapses_of self.new u
+            ≡ min (lapses_of self.old u + is_on (job_of self.old r.n) u) most }
         ensures loss { IsLoss (failures_of self.old r.n) (tries_of self.old) r.n result }
     {
         let loss = self.broker.failed(r.n);
