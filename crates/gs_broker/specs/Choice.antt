@@ -6,11 +6,13 @@ use Rattle.gs_policy.specs.Cost.{Cost}
 use Rattle.gs_broker.specs.declared.choice.Ready.{Ready}
 use Rattle.gs_broker.specs.declared.choice.Pair.{Pair}
 
--- each listed task has an operation and a length in the range
+-- the task's operation and length are in the range at which costs are asked for
+abbrev pub IsTaskInRange : Ready → Type 0
+IsTaskInRange r = (r.op < OPERATION_LIMIT) × (r.bytes ≤ BYTES_LIMIT)
+
+-- each listed task is in the range
 abbrev pub AreInRange : List Ready → Type 0
-AreInRange ready =
-    (i : ℕ) (r : Ready) → slice_get ready i ≡ Some r →
-    (r.op < OPERATION_LIMIT) × (r.bytes ≤ BYTES_LIMIT)
+AreInRange ready = (i : ℕ) (r : Ready) → slice_get ready i ≡ Some r → IsTaskInRange r
 
 -- cheaper, or as cheap and of an earlier task, or of the same task and an earlier worker
 abbrev pub before : Pair → Pair → Bool

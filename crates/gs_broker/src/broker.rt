@@ -8,7 +8,7 @@ ghost use Rattle.gs_broker.specs.Workers.{slots_at, all_slots};
 
 use crate::choice::{Ready, scan_tasks};
 use crate::counts::{add_lapse, least_stranded, leave_slot, no_failures, take_slot, zeros};
-use crate::jobs::{put_in, take_out};
+use crate::jobs::{put_in, take_out, worker_at};
 use crate::outcome::{Loss, chosen, count_slots, loss_at};
 use crate::tasks::{Flight, Line, failures_at, key_at, put};
 use crate::workers::Workers;
@@ -79,6 +79,13 @@ impl Broker {
         ensures { result.now ≡ workers_in self.now }
     {
         &self.workers
+    }
+
+    /// The worker on which task `n` is in flight; `None` exactly where it is not in flight.
+    pub fn job(&self, n: u32) -> Option<u32>
+        ensures { result ≡ job_in self.now n }
+    {
+        worker_at(&self.jobs, n, key_at(&self.tasks, n))
     }
 
     /// Task `n`, which is not in flight, starts on worker `w`, which has a free slot. It uses up at

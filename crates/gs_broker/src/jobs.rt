@@ -16,6 +16,15 @@ pub(crate) fn worker_of(jobs: &Slab<Flight>, n: u32, key: usize) -> Option<u32>
     }
 }
 
+pub(crate) fn worker_at(jobs: &Slab<Flight>, n: u32, key: Option<usize>) -> Option<u32>
+    ensures { result ≡ worker_at (get jobs.now) n key }
+{
+    match key {
+        None => None,
+        Some(k) => worker_of(jobs, n, k),
+    }
+}
+
 pub(crate) fn put_in(jobs: &mut Slab<Flight>, n: u32, worker: u32) -> usize
     requires { HasRoomFor jobs.old 1 }
     ensures mine { worker_at (get jobs.new) n (Some result) ≡ Some worker }

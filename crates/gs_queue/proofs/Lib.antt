@@ -1,0 +1,4 @@
+pub mod Rising
+pub mod Listing
+pub mod Knowing
+pub mod Picking

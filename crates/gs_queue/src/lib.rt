@@ -1,0 +1,9 @@
+//! The tasks that may be started, beside the broker that chooses among them.
+#![tactic(auto)]
+
+mod place;
+mod queue;
+#[cfg(test)]
+mod tests;
+
+pub use queue::Queue;
