@@ -26,7 +26,8 @@ fn log_of(alloc: Global, payloads: &[&[u8]]) -> Result<Vec<u8>, NoMemory> {
     Ok(bytes)
 }
 
-/// A synced disk with a marked log of these payloads and, where one is given, the file of task 1 at place 3.
+/// A synced disk with a marked log of these payloads and, where one is given, the file of task 1 at
+/// place 3.
 fn disk_with(alloc: Global, payloads: &[&[u8]], file: Option<&[u8]>) -> Result<MemDisk, DiskErr> {
     let Ok(log) = log_of(alloc, payloads) else {
         return Err(DiskErr::Memory);
