@@ -3,6 +3,7 @@ use Rattle.std.specs.Prelude.{◌≡◌, ◌≢◌, ◌⊎◌, ℕ, List, [], �
 use Rattle.std.proofs.Common.{⊎_elim, inl, inr, sym, ◌∙◌, subst, refl, ap}
 use Rattle.gs_types.specs.declared.note.Version.{Version}
 use Rattle.gs_disk.specs.Folder.{Folder, Outside, KeepsOthers}
+use Rattle.gs_disk.specs.Going.{AreAmong}
 use Rattle.gs_disk.specs.Name.{IsUser}
 use Rattle.gs_log.specs.Names.{log_name, mark_name}
 use Rattle.gs_log.specs.Holding.{Holds}
@@ -94,15 +95,29 @@ keeps_pushed base es e f g k fresh step held = record {
       ∙ ⊎_elim (k.versions w there) (fresh w there) (named_push w es e named);
 }
 
--- a free user file may become anything
-pub keeps_free : (base : Base) (es : List Entry) (name : List ℕ) (f g : Folder) → IsUser name
-    → ((x : List ℕ) → Outside base.free x → x ≢ name) → Keeps base es f
-    → KeepsOthers (name ∷ []) f g → Keeps base es g
-keeps_free base es name f g user free k step = record {
-  entries = has_stayed es f g (step.each mark_name (λ e. user_not_mark name user (sym e), tt))
-      (step.each log_name (λ e. user_not_log name user (sym e), tt)) k.entries;
-  user_files = λ x own out. step.each x (free x out, tt) ∙ k.user_files x own out;
-  versions =
-      λ w there named. step.each (version_name w)
-      (λ e. user_not_version name w there user (sym e), tt) ∙ k.versions w there named;
+-- ---- the users' files
+
+-- each is the name of a user's file
+abbrev pub AreUsers : List (List ℕ) → Type 0
+AreUsers [] = Unit {0}
+AreUsers (x ∷ xs) = IsUser x × AreUsers xs
+
+-- a name that no user's file has is none of these
+pub outside_users : (names : List (List ℕ)) (x : List ℕ) → AreUsers names
+    → ((u : List ℕ) → IsUser u → u ≢ x) → Outside names x
+outside_users [] x users apart = tt
+outside_users (u ∷ names) x users apart =
+    (λ same. apart u users.0 (sym same), outside_users names x users.1 apart)
+
+-- users' files that are free may become anything
+pub keeps_free : (base : Base) (es : List Entry) (names : List (List ℕ)) (f g : Folder)
+    → AreUsers names → AreAmong names base.free → Keeps base es f → KeepsOthers names f g
+    → Keeps base es g
+keeps_free base es names f g users free k step = record {
+  entries = has_stayed es f g (step.each mark_name (outside_users names mark_name users user_not_mark))
+      (step.each log_name (outside_users names log_name users user_not_log)) k.entries;
+  user_files = λ x own out. step.each x (free x out) ∙ k.user_files x own out;
+  versions = λ w there named. step.each (version_name w)
+      (outside_users names (version_name w) users (λ u user. user_not_version u w there user))
+      ∙ k.versions w there named;
 }

@@ -70,7 +70,7 @@ not_none : {A : Type 0} (o : Option A) → IsSome o → o ≡ None → ⊥
 not_none (Some x) some e = absurd cc
 not_none None some e = absurd cc
 
-marked_holds : (es : List Entry) (image : Folder) → IsSome (image mark_name)
+pub marked_holds : (es : List Entry) (image : Folder) → IsSome (image mark_name)
     → HasEntries es image → Holds (spelled es) image
 marked_holds es image mark (inl h) = h
 marked_holds es image mark (inr none) = absurd (not_none (image mark_name) mark none.0)

@@ -38,7 +38,8 @@ fn push_finals(finals: &[FinalNote], kept: &mut Vec<(Version, u64)>) -> Result<(
     Ok(())
 }
 
-fn push_kept(e: &Entry, kept: &mut Vec<(Version, u64)>) -> Result<(), NoMemory>
+/// Puts the versions that an entry names behind others, with the lengths of their files.
+pub fn push_kept(e: &Entry, kept: &mut Vec<(Version, u64)>) -> Result<(), NoMemory>
     ensures { OnOk result (kept.new.items ≡ kept.old.items ++ kept_by e.now) }
 {
     match e {

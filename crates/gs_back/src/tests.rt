@@ -1,0 +1,1 @@
+// Bringing results to the user's files, and removing a record.
