@@ -1,13 +1,13 @@
 -- Finals that are set one after the other.
 use Rattle.std.proofs.Common.{◌≡◌, ◌≢◌, ℕ, zero, suc, ◌+◌, ◌<◌, ◌≤◌, List, [], ◌∷◌, ◌++◌, length, get_or, take, drop, drop-cons, Option, Some, None, Result, Ok, Err, refl, sym, ap, subst, ◌∙◌, arith}
-use Rattle.std.specs.Prelude.{OnOk, slice_get, slice_index_or}
+use Rattle.std.specs.Prelude.{OnOk, IfErr, IsOk, slice_get, slice_index_or}
 use Rattle.std.proofs.lemmas.Option.{get_or_from_slice_get}
 use Rattle.std.proofs.lemmas.List.{take_more, take-append-drop, take_all}
 use Rattle.gs_types.specs.declared.note.FinalNote.{FinalNote}
 use Rattle.gs_types.specs.declared.note.Version.{Version}
 use Rattle.gs_disk.specs.Folder.{Folder, DiskState, Outside, KeepsOthers, Same}
 use Rattle.gs_disk.specs.Moments.{Leaves, LeavesOnly, EachNow, Passes, Always}
-use Rattle.gs_disk.specs.Going.{AreAmong, always_started, always_goes_on, always_same, same_started}
+use Rattle.gs_disk.specs.Going.{AreAmong, always_started, always_goes_on, always_same, keeps_same, same_started}
 use Rattle.gs_entries.specs.declared.entry.Entry.{Entry}
 use Rattle.gs_entries.specs.declared.entry.GateNote.{GateNote}
 use Rattle.gs_store.specs.Apart.{user_not_version}
@@ -17,7 +17,7 @@ use Rattle.gs_store.specs.Ordered.{gate_in}
 use Rattle.gs_store.specs.Spans.{TouchesOnly}
 use Rattle.gs_store.specs.Versions.{Kept, IsStanding, AllStand, len_of, IsFirstLost}
 use Rattle.gs_back.specs.Finals.{Final, final_of, finals_in, finals_at, finals_of, names_of, kept_of, AreSet}
-use Rattle.gs_back.specs.Told.{RefusesFile, RefusesFinals, WritesBack}
+use Rattle.gs_back.specs.Told.{RefusesFile, RefusesFinals, HasCause, WritesBack, MeetsNoFault}
 use Rattle.gs_back.specs.declared.err.BackErr.{BackErr}
 use Rattle.gs_back.specs.declared.err.BackErr.TheVariants.{Lost, Fault, Memory}
 use Rattle.gs_back.proofs.Copies.{then_touches, none_touched}
@@ -207,6 +207,8 @@ writes_at r es o g a b d at is gate touches passes same set only =
       only = only;
       others = subst (λ (l : List (List ℕ)). KeepsOthers l a.folder d.folder) (sym names)
           (record { each = λ x out. ap (λ (f : Folder). f x) same ∙ touches.reads.each x out });
+      images = subst (λ (l : List (List ℕ)). Passes (KeepsOthers l) a d) (sym names)
+          (keeps_same (names_of (finals_in g.names g.finals)) a b d touches.images passes);
     }
 
 pub writes : {T : Type 0} (r : Result T BackErr) (es : List Entry) (g : GateNote)
@@ -254,3 +256,26 @@ none_set g s = record {
   set = tt;
   stood = tt;
 }
+
+-- ---- that it succeeds
+
+stand_at : (folder : Folder) (before behind : List Kept) (v : Version) (kept : ℕ)
+    → AllStand folder (before ++ (v, kept) ∷ behind) → len_of folder v ≡ Some kept
+stand_at folder [] behind v kept all = all.0
+stand_at folder (k ∷ before) behind v kept all = stand_at folder before behind v kept all.1
+
+not_lost : (folder : Folder) (ks : List Kept) (v : Version) (kept : ℕ) (found : Option ℕ)
+    → AllStand folder ks → IsFirstLost folder ks v kept found → ⊥
+not_lost folder ks v kept found all first =
+    first.lost (first.is
+    ∙ stand_at folder first.before first.behind v kept (subst (AllStand folder) first.parts all))
+
+pub complete : {T : Type 0} (r : Result T BackErr) (fs : List Final) (a b : DiskState)
+    → IfErr r (RefusesFinals a.folder fs) → HasCause a b r → MeetsNoFault fs a b → IsOk r
+complete (Ok x) fs a b refused cause well = refl
+complete (Err (Lost v kept found)) fs a b refused cause well =
+    absurd (not_lost a.folder (kept_of fs) v kept found well.stand refused)
+complete (Err Fault) fs a b refused cause well =
+    absurd (well.faults (cause.faults.cause refl))
+complete (Err Memory) fs a b refused cause well =
+    absurd (well.refusals (cause.refusals.cause refl))

@@ -1,15 +1,15 @@
 -- What bringing results to the user's files does, and which error comes when.
 use Rattle.std.specs.Prelude.{◌≡◌, ◌≢◌, ℕ, List, Option, Some, Result, IsErrOf, OnOk}
-use Rattle.gs_types.specs.Counts.{Caused}
+use Rattle.gs_types.specs.Counts.{Caused, Rises}
 use Rattle.gs_types.specs.declared.note.Version.{Version}
 use Rattle.gs_disk.specs.Folder.{Folder, DiskState, KeepsOthers}
 use Rattle.gs_disk.specs.Going.{AreAmong}
-use Rattle.gs_disk.specs.Moments.{LeavesOnly, EachNow, Always}
+use Rattle.gs_disk.specs.Moments.{LeavesOnly, EachNow, Passes, Always}
 use Rattle.gs_disk.specs.declared.disk.DiskErr.{DiskErr}
 use Rattle.gs_disk.specs.declared.disk.DiskErr.TheVariants as disks
 use Rattle.gs_entries.specs.declared.entry.Entry.{Entry}
 use Rattle.gs_store.specs.Keeps.{Base, Keeps}
-use Rattle.gs_store.specs.Versions.{len_of, IsFirstLost}
+use Rattle.gs_store.specs.Versions.{len_of, AllStand, IsFirstLost}
 use Rattle.gs_back.specs.Finals.{Final, finals_of, names_of, kept_of, AreSet}
 use Rattle.gs_back.specs.declared.err.BackErr.{BackErr}
 use Rattle.gs_back.specs.declared.err.BackErr.TheVariants.{Lost, Fault, Memory}
@@ -46,3 +46,10 @@ pub record WritesBack {T : Type 0} (es : List Entry) (old new : DiskState)
   pub set : OnOk result (AreSet (finals_of es) old.folder new.folder)
   pub only : OnOk result (LeavesOnly new.folder new)
   pub others : KeepsOthers (names_of (finals_of es)) old.folder new.folder
+  pub images : Passes (KeepsOthers (names_of (finals_of es))) old new
+
+-- the versions of these finals stand, and no count of the disk rose
+pub record MeetsNoFault (fs : List Final) (old new : DiskState) : Type 0 where
+  pub stand : AllStand old.folder (kept_of fs)
+  pub faults : Rises old.faults new.faults → ⊥
+  pub refusals : Rises old.refusals new.refusals → ⊥

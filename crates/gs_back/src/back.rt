@@ -1,5 +1,5 @@
 // Bringing results to the user's files.
-ghost use Rattle.std.specs.Prelude.{◌≡◌, true, Some, OnOk, IfErr};
+ghost use Rattle.std.specs.Prelude.{◌≡◌, true, Some, OnOk, IfErr, IsOk};
 ghost use Rattle.gs_entries.specs.Entries.{entry};
 ghost use Rattle.gs_entries.specs.Order.{stage_of};
 ghost use Rattle.gs_entries.specs.declared.entry.Entry.TheVariants as made;
@@ -8,7 +8,7 @@ ghost use Rattle.gs_store.specs.Spans.{TouchesOnly};
 ghost use Rattle.gs_store.specs.Ordered.{gate_in};
 ghost use Rattle.gs_store.specs.Versions.{AllStand};
 ghost use Rattle.gs_back.specs.Finals.{finals_in, finals_of, names_of, kept_of, AreSet};
-ghost use Rattle.gs_back.specs.Told.{HasCause, RefusesFinals, WritesBack};
+ghost use Rattle.gs_back.specs.Told.{HasCause, RefusesFinals, WritesBack, MeetsNoFault};
 
 use crate::err::BackErr;
 use crate::finals::set_final;
@@ -39,7 +39,8 @@ fn set_finals<D: Disk>(disk: &mut D, g: &GateNote) -> Result<(), BackErr>
 
 /// Makes each final of the record's gate, in order, and then syncs. `Lost` exactly where the file
 /// of a final's version is absent or of another length, with the first. `Fault` and `Memory` are
-/// the disk's. It takes no memory of its own.
+/// the disk's, since it takes no memory of its own: where the versions stand and no count of the
+/// disk rises, it gives `Ok`.
 pub fn write_back<D: Disk>(store: &Store, disk: &mut D) -> Result<(), BackErr>
     requires gated { stage_of store.now.entries ≡ stages.Gated }
     ensures writes { D.tells
@@ -49,6 +50,8 @@ pub fn write_back<D: Disk>(store: &Store, disk: &mut D) -> Result<(), BackErr>
     ensures refused { D.tells → IfErr result (RefusesFinals (D.state disk.old).folder
         (finals_of store.now.entries)) }
     ensures cause { HasCause (D.state disk.old) (D.state disk.new) result }
+    ensures complete { D.tells → MeetsNoFault (finals_of store.now.entries) (D.state disk.old)
+        (D.state disk.new) → IsOk result }
 {
     let g = gate_of(store);
     if let Err(failure) = set_finals(disk, g) {

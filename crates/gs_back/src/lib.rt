@@ -13,3 +13,5 @@ pub use removal::clean;
 
 #[cfg(test)]
 mod tests;
+#[cfg(test)]
+mod tests;

@@ -81,3 +81,18 @@ some_loaded a b list es kept held only read ks stand passes same =
 pub held_by : (o : Option (List (List ℕ))) (list : List (List ℕ)) (folder : Folder)
     → IsLogIn folder o → o ≡ Some list → Holds list folder
 held_by o list folder found is = subst (IsLogIn folder) is found
+
+-- a call that changes nothing keeps the disk of a store
+pub disk_same : (store : StoreState) (a b : DiskState) → Passes Same a b → IsDiskOf store a
+    → IsDiskOf store b
+disk_same store a b passes disk = record {
+  agreed = (
+    disk.agreed.0,
+    λ image left.
+        let from = passes.now image left in
+        subst (Keeps disk.agreed.0 store.entries) (sym from.2.is) (disk.agreed.1 from.0 from.1),
+  );
+  mark = λ image left.
+      let from = passes.now image left in
+      ap (λ (f : Folder). is_some (f mark_name)) from.2.is ∙ disk.mark from.0 from.1;
+}

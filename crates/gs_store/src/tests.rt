@@ -221,6 +221,22 @@ fn add_standing<D: Disk>(
     }
 }
 
+/// Adds an entry, where its files stand and it may stand itself.
+fn add_checked<D: Disk>(
+    alloc: Global,
+    store: &mut Store,
+    disk: &mut D,
+    e: Entry,
+    kept: &[(Version, u64)],
+) -> Result<(), StoreErr>
+    requires fits { entry.fits e ≡ true }
+    requires its_own { kept.now ≡ kept_by e }
+    requires disk_of_store { D.tells → IsDiskOf store.old (D.state disk.old) }
+{
+    check_files(disk, kept)?;
+    add_standing(alloc, store, disk, e)
+}
+
 /// Loads the store of a disk, and adds the entry that a payload spells.
 fn add(alloc: Global, disk: &mut MemDisk, payload: &[u8]) -> Result<(), StoreErr> {
     let Ok(e) = decode(alloc, payload) else {
@@ -229,8 +245,7 @@ fn add(alloc: Global, disk: &mut MemDisk, payload: &[u8]) -> Result<(), StoreErr
     let mut kept = Vec::new(alloc);
     push_kept(&e, &mut kept)?;
     let mut store = Store::load(alloc, disk)?;
-    check_files(disk, &kept)?;
-    add_standing(alloc, &mut store, disk, e)
+    add_checked(alloc, &mut store, disk, e, &kept)
 }
 
 /// Loads the store of a disk, and puts the file of a version of at most 16,777,216 bytes.
@@ -245,7 +260,7 @@ fn put_loaded(alloc: Global, disk: &mut MemDisk, v: &Version, bytes: &[u8]) -> R
 fn has_record(alloc: Global, disk: &mut MemDisk, payloads: &[&[u8]]) -> Result<bool, StoreErr> {
     let bytes = log_of(alloc, payloads)?;
     let store = Store::load(alloc, disk)?;
-    let count = payloads.len() as u32;
+    let count = (payloads.len() % 4_294_967_296) as u32;
     Ok(
         disk.get(&DiskName::of(b".gs.log")) == Some(bytes.as_slice())
             && store.entry(count).is_none()
