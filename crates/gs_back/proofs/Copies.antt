@@ -13,7 +13,8 @@ pub record IsCopied (from to : List ℕ) (at : ℕ) (f g : Folder) (bytes : List
   pub within : at ≤ length bytes
   pub copied : g to ≡ Some (take at bytes)
 
-grown : (at n : ℕ) (bytes piece : List ℕ) → at ≤ length bytes → piece ≡ take n (drop at bytes)
+grown : (at n : ℕ) (bytes piece : List ℕ) → at ≤ length bytes
+    → piece ≡ take n (drop at bytes)
     → overwritten at piece (take at bytes) ≡ take (at + n) bytes
 grown at n bytes piece le same =
     let d : drop (at + length piece) (take at bytes) ≡ [] = drop_all (at + length piece)
@@ -39,7 +40,8 @@ pub piece_set : (at n : ℕ) (from to bytes old new : List ℕ) (f g h k : Folde
     → IfSome (h to) (λ was. k to ≡ Some (overwritten at (take n new) was))
     → IsCopied from to (at + n) f k bytes
 piece_set at n from to bytes old new f g h k apart file others here read same wrote =
-    let is : IsRead at n (Some bytes) old new = subst (λ (o : Option (List ℕ)). IsRead at n o old new)
+    let is : IsRead at n (Some bytes) old new =
+    subst (λ (o : Option (List ℕ)). IsRead at n o old new)
     (others.each from (apart, tt) ∙ file) read in
     let w : k to ≡ Some (overwritten at (take n new) (take at bytes)) = subst
     (λ (o : Option (List ℕ)). IfSome o (λ was. k to ≡ Some (overwritten at (take n new) was)))
@@ -69,7 +71,8 @@ pub read_on : (at n len : ℕ) (bytes old new : List ℕ) → IsRead at n (Some 
     → at < length bytes → 1 ≤ length old → 1 ≤ n
 read_on at n len bytes old new read lt room = omega (arith, read.0)
 
-pub piece_touches : (to : List ℕ) (a b c d : DiskState) (at n : ℕ) → TouchesOnly (to ∷ []) a b
+pub piece_touches : (to : List ℕ) (a b c d : DiskState) (at n : ℕ)
+    → TouchesOnly (to ∷ []) a b
     → Passes Same b c → c.folder ≡ b.folder → Passes (Tears to at n) c d
     → Tears to at n c.folder d.folder → TouchesOnly (to ∷ []) a d
 piece_touches to a b c d at n one read same write torn = record {
@@ -77,7 +80,8 @@ piece_touches to a b c d at n one read same write torn = record {
     each = λ x out. torn.others.each x out ∙ ap (λ (w : Folder). w x) same
         ∙ one.reads.each x out;
   };
-  images = keeps_write (to ∷ []) to at n a c d (keeps_same (to ∷ []) a b c one.images read) write
+  images = keeps_write (to ∷ []) to at n a c d (keeps_same (to ∷ []) a b c one.images read)
+      write
       (λ x out. out);
 }
 

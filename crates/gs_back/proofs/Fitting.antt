@@ -113,7 +113,8 @@ is_not y x apart same = let equal = (bytes_eq-Decides y x).1 same in absurd cc
 -- a name behind those that one was seen among differs from it
 later_differs : (before names : List (List ℕ)) (x : List ℕ) (j : ℕ)
     → ((y : List ℕ) → list_any (bytes_eq y) before ≡ false → y ≢ x)
-    → distinct_after before names ≡ true → j < length names → slice_index_or names j [] ≢ x
+    → distinct_after before names ≡ true → j < length names
+    → slice_index_or names j [] ≢ x
 later_differs before [] x j seen e lt = absurd (omega arith)
 later_differs before (y ∷ ys) x zero seen e lt =
     let parts = both (not (list_any (bytes_eq y) before)) (distinct_after (before ++ y ∷ []) ys) e
@@ -170,7 +171,8 @@ rise_at count low written (x ∷ fs) (suc i) d e lt =
     let a = parts.1 in let b = more.1 in
     (more.0, omega arith)
 
-fresh_at : (names : List (List ℕ)) (low : ℕ) (written : List ℕ) (fs : List FinalNote) (i : ℕ)
+fresh_at : (names : List (List ℕ)) (low : ℕ) (written : List ℕ) (fs : List FinalNote)
+    (i : ℕ)
     (d : FinalNote) → distinct_after [] names ≡ true
     → finals_rise (length names) written low fs ≡ true → i < length fs
     → Outside (names_of (finals_in names (take i fs)))

@@ -31,7 +31,8 @@ unmarked_or base es f g (Some bytes) at marked k step =
         file = step.each log_name (log_is_not_mark, tt) ∙ h.file;
         log = h.log;
       });
-      user_files = λ x user out. step.each x (user_not_mark x user, tt) ∙ k.user_files x user out;
+      user_files = λ x user out. step.each x (user_not_mark x user, tt)
+          ∙ k.user_files x user out;
       versions = λ v kept named. step.each (version_name v)
           (λ same. mark_not_version v kept (sym same), tt) ∙ k.versions v kept named;
     })
@@ -53,7 +54,8 @@ unmark_at base es (Some bytes) a b at agrees stands passes idle =
 pub unmarks : {T E : Type 0} (r : Result T E) (a b c : DiskState)
     → Passes (KeepsOthers (mark_name ∷ [])) a b
     → (a.folder mark_name ≡ None → Passes Same a b)
-    → KeepsOthers (mark_name ∷ []) a.folder b.folder → Passes Same b c → c.folder ≡ b.folder
+    → KeepsOthers (mark_name ∷ []) a.folder b.folder → Passes Same b c
+    → c.folder ≡ b.folder
     → OnOk r (c.folder mark_name ≡ None) → OnOk r (LeavesOnly c.folder c) → Unmarks a c r
 unmarks r a b c passes idle others same reads gone only = record {
   any_moment = λ agrees base es stands. always_same (KeepsOrUnmarked base es) a b c
@@ -95,7 +97,8 @@ item_at (n ∷ names) zero name lt is = is
 item_at (n ∷ names) (suc i) name lt is = item_at names i name (omega arith) is
 
 pub skipped : (names : List (List ℕ)) (i : ℕ) (name : List ℕ) (a b : DiskState)
-    → i < length names → name ≡ get_or names i name → (IsStore name → ⊥) → IsRemovedTo names i a b
+    → i < length names → name ≡ get_or names i name → (IsStore name → ⊥)
+    → IsRemovedTo names i a b
     → IsRemovedTo names (i + 1) a b
 skipped names i name a b lt is not h = record {
   touches = h.touches;
@@ -106,7 +109,8 @@ skipped names i name a b lt is not h = record {
       (λ store. absurd (not (subst IsStore (sym (item_at names i name lt is)) store)));
 }
 
-unstored_beside : (name : List ℕ) (f g : Folder) → IsStore name → KeepsOthers (name ∷ []) f g
+unstored_beside : (name : List ℕ) (f g : Folder) → IsStore name
+    → KeepsOthers (name ∷ []) f g
     → KeepsUnstored f g
 unstored_beside name f g store step = record {
   each = λ x not. step.each x (λ same. not (subst IsStore (sym same) store), tt);
@@ -120,7 +124,8 @@ unstored_on name a b c store one two = goes_on KeepsUnstored (KeepsOthers (name 
 
 -- a file's removal was begun
 pub removing : (names : List (List ℕ)) (i : ℕ) (name : List ℕ) (a b c : DiskState)
-    → i < length names → name ≡ get_or names i name → IsStore name → IsRemovedTo names i a b
+    → i < length names → name ≡ get_or names i name → IsStore name
+    → IsRemovedTo names i a b
     → KeepsOthers (name ∷ []) b.folder c.folder → Passes (KeepsOthers (name ∷ [])) b c
     → TouchesOnly names a c × KeepsUnstored a.folder c.folder × Passes KeepsUnstored a c
 removing names i name a b c lt is store h others passes = (
@@ -138,13 +143,15 @@ names_cases x y =
       | inr apart ↦ inr (λ is. let same = (bytes_eq-Decides x y).1 is in absurd cc)
     ]
 
-gone_before : (x name : List ℕ) (f g : Folder) → KeepsOthers (name ∷ []) f g → g name ≡ None
+gone_before : (x name : List ℕ) (f g : Folder) → KeepsOthers (name ∷ []) f g
+    → g name ≡ None
     → f x ≡ None → g x ≡ None
 gone_before x name f g step gone none = ⊎_elim (λ same. ap g same ∙ gone)
     (λ apart. step.each x (apart, tt) ∙ none) (names_cases x name)
 
 pub removed_more : (names : List (List ℕ)) (i : ℕ) (name : List ℕ) (a b c : DiskState)
-    → i < length names → name ≡ get_or names i name → IsStore name → IsRemovedTo names i a b → KeepsOthers (name ∷ []) b.folder c.folder
+    → i < length names → name ≡ get_or names i name → IsStore name
+    → IsRemovedTo names i a b → KeepsOthers (name ∷ []) b.folder c.folder
     → Passes (KeepsOthers (name ∷ [])) b c → c.folder name ≡ None
     → IsRemovedTo names (i + 1) a c
 removed_more names i name a b c lt is store h others passes gone =
@@ -172,14 +179,16 @@ removes r names a c h gone = record {
 }
 
 pub all_gone : (names : List (List ℕ)) (i : ℕ) (a b : DiskState) → length names ≤ i
-    → IsRemovedTo names i a b → (x : List ℕ) → IsStore x → Has x names → b.folder x ≡ None
+    → IsRemovedTo names i a b → (x : List ℕ) → IsStore x → Has x names
+    → b.folder x ≡ None
 all_gone names i a b le h x store has =
     ap b.folder (sym has.2)
     ∙ h.gone has.0 (omega (arith, has.1)) (subst IsStore (sym has.2) store)
 
 -- ---- all of it
 
-outside_unless : (names : List (List ℕ)) (x : List ℕ) → (Has x names → ⊥) → Outside names x
+outside_unless : (names : List (List ℕ)) (x : List ℕ) → (Has x names → ⊥)
+    → Outside names x
 outside_unless [] x not = tt
 outside_unless (n ∷ names) x not = (
   λ same. not (0, omega arith, sym same),
@@ -239,7 +248,8 @@ not_listed : (names : List (List ℕ)) (folder : Folder) (x : List ℕ) → AreN
 not_listed names folder x are none has = some_not_none (folder x) ((are x).0 has) none
 
 pub rest_cleaned : {T E : Type 0} (r : Result T E) (names : List (List ℕ)) (a b c d : DiskState)
-    → IsCleanedTo a c → LeavesOnly b.folder b → b.folder mark_name ≡ None → Passes Same b c
+    → IsCleanedTo a c → LeavesOnly b.folder b → b.folder mark_name ≡ None
+    → Passes Same b c
     → AreNames names b.folder → RemovesStored names c d r → IsCleanedTo a d
 rest_cleaned r names a b c d h only gone passes are rest = record {
   any_moment = λ agrees base es stands. still_unmarked base es names a c d
@@ -250,7 +260,8 @@ rest_cleaned r names a b c d h only gone passes are rest = record {
       (λ f g s. s) (λ f g k left s t. unstored_then f g k s t);
 }
 
-gone_at : (names : List (List ℕ)) (o : Option (List ℕ)) (b c d : Folder) (x : List ℕ) → b x ≡ o
+gone_at : (names : List (List ℕ)) (o : Option (List ℕ)) (b c d : Folder) (x : List ℕ)
+    → b x ≡ o
     → AreNames names b → c ≡ b → KeepsOthers names c d
     → (IsStore x → Has x names → d x ≡ None) → IsStore x → d x ≡ None
 gone_at names None b c d x at are same step gone store =
@@ -261,7 +272,8 @@ gone_at names (Some bytes) b c d x at are same step gone store =
 
 pub no_store : (names : List (List ℕ)) (b c d e : DiskState) → AreNames names b.folder
     → c.folder ≡ b.folder → KeepsOthers names c.folder d.folder
-    → ((x : List ℕ) → IsStore x → Has x names → d.folder x ≡ None) → e.folder ≡ d.folder
+    → ((x : List ℕ) → IsStore x → Has x names → d.folder x ≡ None)
+    → e.folder ≡ d.folder
     → HasNoStore e.folder
 no_store names b c d e are same step gone last x store =
     ap (λ (f : Folder). f x) last

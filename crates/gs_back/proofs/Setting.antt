@@ -45,7 +45,8 @@ set_push [] f old new set is = (is, tt)
 set_push (x ∷ fs) f old new set is = (set.0, set_push fs f old new set.1 is)
 
 -- a file beside them is made
-set_stays : (fs : List Final) (name : List ℕ) (old now new : Folder) → Outside (names_of fs) name
+set_stays : (fs : List Final) (name : List ℕ) (old now new : Folder)
+    → Outside (names_of fs) name
     → KeepsOthers (name ∷ []) now new → AreSet fs old now → AreSet fs old new
 set_stays [] name old now new out step set = tt
 set_stays (f ∷ fs) name old now new out step set = (
@@ -63,7 +64,8 @@ name_among : (names : List (List ℕ)) (fs : List FinalNote) (i : ℕ) (f : Fina
     → AreAmong (slice_index_or names f.name [] ∷ []) (names_of (finals_in names fs))
 name_among names fs i f lt is x out = (out_at names fs i f x lt is out, tt)
   where
-    out_at : (names : List (List ℕ)) (fs : List FinalNote) (i : ℕ) (f : FinalNote) (x : List ℕ)
+    out_at : (names : List (List ℕ)) (fs : List FinalNote) (i : ℕ) (f : FinalNote)
+        (x : List ℕ)
         → i < length fs → f ≡ get_or fs i f → Outside (names_of (finals_in names fs)) x
         → x ≢ slice_index_or names f.name []
     out_at names [] i f x lt is out = absurd (omega arith)
@@ -88,7 +90,8 @@ version_stays g v a b gate kept touches =
     (outside_users (names_of (finals_in g.names g.finals)) (version_name v) (users g gate)
     (λ u user. user_not_version u v kept user))
 
-pub touches_more : (g : GateNote) (i : ℕ) (f : FinalNote) (a b c : DiskState) → i < length g.finals
+pub touches_more : (g : GateNote) (i : ℕ) (f : FinalNote) (a b c : DiskState)
+    → i < length g.finals
     → f ≡ get_or g.finals i f → TouchesOnly (names_of (finals_in g.names g.finals)) a b
     → TouchesOnly (slice_index_or g.names f.name [] ∷ []) b c
     → TouchesOnly (names_of (finals_in g.names g.finals)) a c
@@ -97,7 +100,8 @@ touches_more g i f a b c lt is one two =
     a b c (name_among g.names g.finals i f lt is) one two
 
 stands_then : (then now : Folder) (v : Version) (len : ℕ)
-    → now (version_name v) ≡ then (version_name v) → IsStanding now v len → IsStanding then v len
+    → now (version_name v) ≡ then (version_name v) → IsStanding now v len
+    → IsStanding then v len
 stands_then then now v len same stands =
     ap (λ (o : Option (List ℕ)). len_in o) (sym same) ∙ stands
   where
@@ -127,7 +131,8 @@ set_more g i f a b c gate lt is so_far touches set stands =
           (stands_then a.folder b.folder f.version f.len same stands));
     }
 
-pub all_set : (g : GateNote) (i : ℕ) (a b : DiskState) → length g.finals ≤ i → AreSetTo g i a b
+pub all_set : (g : GateNote) (i : ℕ) (a b : DiskState) → length g.finals ≤ i
+    → AreSetTo g i a b
     → AreSet (finals_in g.names g.finals) a.folder b.folder
 all_set g i a b le so_far =
     subst (λ (fs : List FinalNote). AreSet (finals_in g.names fs) a.folder b.folder)
@@ -241,7 +246,8 @@ refused_so es g folder e is h =
 
 -- ---- by the loop's own list
 
-pub in_finals : (list fs : List FinalNote) (i : ℕ) (f : FinalNote) → list ≡ fs → i < length list
+pub in_finals : (list fs : List FinalNote) (i : ℕ) (f : FinalNote) → list ≡ fs
+    → i < length list
     → f ≡ get_or list i f → (i < length fs) × (f ≡ get_or fs i f)
 in_finals list fs i f same lt is =
     subst (λ (l : List FinalNote). (i < length l) × (f ≡ get_or l i f)) same (lt, is)

@@ -30,7 +30,8 @@ KeepsOrUnmarked base es image = Keeps base es image ⊎ IsUnmarked image
 -- a record was removed: what each image kept, each image keeps at every moment, or it has no mark;
 -- and files that aren't the store's stay as they are
 pub record Cleans {T E : Type 0} (old new : DiskState) (result : Result T E) : Type 0 where
-  pub any_moment : AgreesOnMark old → (base : Base) (es : List Entry) → EachNow (Keeps base es) old
+  pub any_moment : AgreesOnMark old → (base : Base) (es : List Entry)
+      → EachNow (Keeps base es) old
       → Always (KeepsOrUnmarked base es) old new
   pub gone : OnOk result (HasNoStore new.folder)
   pub only : OnOk result (LeavesOnly new.folder new)
@@ -39,7 +40,8 @@ pub record Cleans {T E : Type 0} (old new : DiskState) (result : Result T E) : T
 
 -- the mark was removed, and no other file
 pub record Unmarks {T E : Type 0} (old new : DiskState) (result : Result T E) : Type 0 where
-  pub any_moment : AgreesOnMark old → (base : Base) (es : List Entry) → EachNow (Keeps base es) old
+  pub any_moment : AgreesOnMark old → (base : Base) (es : List Entry)
+      → EachNow (Keeps base es) old
       → Always (KeepsOrUnmarked base es) old new
   pub gone : OnOk result (new.folder mark_name ≡ None)
   pub only : OnOk result (LeavesOnly new.folder new)

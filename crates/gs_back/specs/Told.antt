@@ -25,7 +25,8 @@ pub record HasCause {T : Type 0} (old new : DiskState) (result : Result T BackEr
 
 -- what a version's file is where this error comes at it
 abbrev pub RefusesFile : Folder → Version → ℕ → BackErr → Type 0
-RefusesFile folder v kept (Lost w len found) = (w ≡ v) × (len ≡ kept) × (found ≡ len_of folder v)
+RefusesFile folder v kept (Lost w len found) = (w ≡ v) × (len ≡ kept)
+    × (found ≡ len_of folder v)
     × (found ≢ Some kept)
 RefusesFile folder v kept Fault = Unit {0}
 RefusesFile folder v kept Memory = Unit {0}

@@ -13,5 +13,3 @@ pub use removal::clean;
 
 #[cfg(test)]
 mod tests;
-#[cfg(test)]
-mod tests;

@@ -1,5 +1,5 @@
 -- The gate among entries in order.
-use Rattle.std.proofs.Common.{◌≡◌, ◌≢◌, ℕ, suc, ◌+◌, ◌<◌, ◌≤◌, true, false, List, [], ◌∷◌, ◌++◌, length, get_or, drop, drop-cons, add-one, Option, Some, None, IsSome, refl, sym, ap, subst, ◌∙◌, append_assoc}
+use Rattle.std.proofs.Common.{◌≡◌, ℕ, suc, ◌<◌, ◌≤◌, true, false, List, [], ◌∷◌, ◌++◌, length, get_or, drop, drop-cons, Some, None, refl, sym, ap, subst, ◌∙◌, append_assoc}
 use Rattle.std.proofs.lemmas.List.{append-nil, drop_all}
 use Rattle.gs_entries.specs.Entries.{entry}
 use Rattle.gs_entries.specs.Order.{stage_by, later, stage_after, stage_of, may_follow}
@@ -10,7 +10,7 @@ use Rattle.gs_entries.specs.declared.entry.Stage.{Stage}
 use Rattle.gs_entries.specs.declared.entry.Stage.TheVariants as stages
 use Rattle.gs_entries.proofs.Ordered.{stage_push}
 use Rattle.gs_store.specs.Ordered.{AreBehind, AreInOrder, gate_in, HasEnded}
-use Rattle.gs_store.proofs.Putting.{is_late, late_later, later_late, stays_late}
+use Rattle.gs_store.proofs.Putting.{is_late, later_late, stays_late}
 
 ended_late : (s : Stage) → HasEnded s → is_late s ≡ true
 ended_late stages.Fresh h = absurd h

@@ -114,7 +114,8 @@ pub keeps_free : (base : Base) (es : List Entry) (names : List (List ℕ)) (f g 
     → AreUsers names → AreAmong names base.free → Keeps base es f → KeepsOthers names f g
     → Keeps base es g
 keeps_free base es names f g users free k step = record {
-  entries = has_stayed es f g (step.each mark_name (outside_users names mark_name users user_not_mark))
+  entries =
+      has_stayed es f g (step.each mark_name (outside_users names mark_name users user_not_mark))
       (step.each log_name (outside_users names log_name users user_not_log)) k.entries;
   user_files = λ x own out. step.each x (free x out) ∙ k.user_files x own out;
   versions = λ w there named. step.each (version_name w)

@@ -66,7 +66,8 @@ loop-last-preserved g c =
       );
       so_far = λ told. set_more c.args.g.now c.loop-last.last-index c.last-item.result a b d gate
           at.0 at.1 (c.loop-last.invariant.so_far told)
-          (subst (λ (x : List ℕ). TouchesOnly (x ∷ []) b d) is (c.set_final.ensures.touches told))
+          (subst (λ (x : List ℕ). TouchesOnly (x ∷ []) b d) is
+          (c.set_final.ensures.touches told))
           (ap d.folder (sym is) ∙ c.in_default.ensures.set told)
           (c.in_default.ensures.stood told);
     }
@@ -74,7 +75,8 @@ loop-last-preserved g c =
 pub returns-clause-set : goal.returns-clause-set
 returns-clause-set g c = λ told.
     let le : length c.args.g.now.finals ≤ c.loop-last.last-index
-    = subst (λ (l : List FinalNote). length l ≤ c.loop-last.last-index) c.items-last-items.ensures
+    = subst (λ (l : List FinalNote). length l ≤ c.loop-last.last-index)
+    c.items-last-items.ensures
     c.loop-last-test.false in
     all_set c.args.g.now c.loop-last.last-index (g.D.Disk.state c.args.disk.now)
     (g.D.Disk.state c.loop-last.disk) le (c.loop-last.invariant.so_far told)
@@ -82,7 +84,8 @@ returns-clause-set g c = λ told.
 pub returns-clause-stood : goal.returns-clause-stood
 returns-clause-stood g c = λ told.
     let le : length c.args.g.now.finals ≤ c.loop-last.last-index
-    = subst (λ (l : List FinalNote). length l ≤ c.loop-last.last-index) c.items-last-items.ensures
+    = subst (λ (l : List FinalNote). length l ≤ c.loop-last.last-index)
+    c.items-last-items.ensures
     c.loop-last-test.false in
     all_stood c.args.g.now c.loop-last.last-index (g.D.Disk.state c.args.disk.now)
     (g.D.Disk.state c.loop-last.disk) le (c.loop-last.invariant.so_far told)

@@ -7,14 +7,16 @@ use Rattle.gs_back.proofs.back.write_back.Goals as goal
 
 pub returns-in-Err-clause-writes : goal.returns-in-Err-clause-writes
 returns-in-Err-clause-writes g c = λ told.
-    let es = c.args.store.now.entries in let gate = is_gate c.gate_of-g.result.now c.gate_of-g.ensures.fits in
+    let es = c.args.store.now.entries in let gate =
+    is_gate c.gate_of-g.result.now c.gate_of-g.ensures.fits in
     let a = g.D.Disk.state c.args.disk.now in let b = g.D.Disk.state c.set_finals.new.disk in
     written_part c.in-Err.failure es c.gate_of-g.result.now a b c.gate_of-g.ensures.value gate
     (c.set_finals.ensures.touches told)
 
 pub returns-in_err-sync-clause-writes : goal.returns-in_err-sync-clause-writes
 returns-in_err-sync-clause-writes g c = λ told.
-    let es = c.args.store.now.entries in let gate = is_gate c.gate_of-g.result.now c.gate_of-g.ensures.fits in
+    let es = c.args.store.now.entries in let gate =
+    is_gate c.gate_of-g.result.now c.gate_of-g.ensures.fits in
     let a = g.D.Disk.state c.args.disk.now in let b = g.D.Disk.state c.set_finals.new.disk in
     let d = g.D.Disk.state c.sync.new.self in
     writes c.from_residual.result es c.gate_of-g.result.now a b d c.gate_of-g.ensures.value gate
@@ -23,7 +25,8 @@ returns-in_err-sync-clause-writes g c = λ told.
 
 pub returns-clause-writes : goal.returns-clause-writes
 returns-clause-writes g c = λ told.
-    let es = c.args.store.now.entries in let gate = is_gate c.gate_of-g.result.now c.gate_of-g.ensures.fits in
+    let es = c.args.store.now.entries in let gate =
+    is_gate c.gate_of-g.result.now c.gate_of-g.ensures.fits in
     let a = g.D.Disk.state c.args.disk.now in let b = g.D.Disk.state c.set_finals.new.disk in
     let d = g.D.Disk.state c.sync.new.self in
     let note = c.gate_of-g.result.now in

@@ -1,5 +1,3 @@
-use Rattle.std.proofs.Common.{List, subst, ap, sym, ◌∙◌}
-use Rattle.gs_store.specs.Versions.{Kept, AllStand}
 use Rattle.gs_store.proofs.Loaded.{disk_same}
 use Rattle.gs_store.proofs.tests.add_checked.Goals as goal
 

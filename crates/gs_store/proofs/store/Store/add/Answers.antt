@@ -1,5 +1,4 @@
-use Rattle.std.proofs.Common.{[], ◌∷◌, ◌++◌, List, true, refl, ap, ◌∙◌}
-use Rattle.gs_entries.specs.declared.entry.Entry.{Entry}
+use Rattle.std.proofs.Common.{ap, ◌∙◌}
 use Rattle.gs_entries.specs.Entries.{Spells}
 use Rattle.gs_store.specs.State.{StoreState}
 use Rattle.gs_store.proofs.Adding.{adds, adds_failed, adds_done, log_of_some, log_pushed, list_is}

@@ -1,4 +1,4 @@
-use Rattle.std.proofs.Common.{ap, refl, ◌∙◌, arith}
+use Rattle.std.proofs.Common.{ap, refl, ◌∙◌}
 use Rattle.gs_store.specs.State.{StoreState}
 use Rattle.gs_store.proofs.Gating.{gate_here, none_left, own_order, has_ended, not_ended, gate_fits}
 use Rattle.gs_store.proofs.store.Store.gate_note.Goals as goal

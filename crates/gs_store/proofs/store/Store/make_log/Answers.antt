@@ -1,7 +1,7 @@
 use Rattle.std.proofs.Common.{ap, ◌∙◌, subst, sym}
 use Rattle.gs_store.specs.Ordered.{AreInOrder}
 use Rattle.gs_store.specs.State.{StoreState}
-use Rattle.gs_store.proofs.Beginning.{made_stays, empty_log, made_disk, stays_made}
+use Rattle.gs_store.proofs.Beginning.{made_stays, empty_log, made_disk}
 use Rattle.gs_store.proofs.store.Store.make_log.Goals as goal
 
 pub invariant_of-self : goal.invariant_of-self
