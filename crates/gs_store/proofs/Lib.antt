@@ -1,7 +1,9 @@
 pub mod Adding
 pub mod Beginning
 pub mod Checking
+pub mod Counting
 pub mod Following
+pub mod Gating
 pub mod Loaded
 pub mod Payloads
 pub mod Putting

@@ -3,6 +3,7 @@ pub mod Causes
 pub mod Keeps
 pub mod Loading
 pub mod Names
+pub mod Ordered
 pub mod Spans
 pub mod State
 pub mod Told

@@ -1,4 +1,5 @@
--- The names of version files. What they are doesn't unfold: the facts in `Apart` are what is needed of them.
+-- The names of version files. What they are doesn't unfold: the facts in `Apart` are what is needed
+-- of them.
 use Rattle.std.specs.Prelude.{ℕ, ◌^◌, ◌<◌, List, ◌∷◌, ◌++◌, decimal}
 use Rattle.gs_types.specs.declared.note.Version.{Version}
 use Rattle.gs_types.specs.declared.note.Version.TheVariants.{Original, Out, Main}

@@ -53,21 +53,29 @@ abbrev pub Named : Version → List Entry → Type 0
 Named v [] = ⊥
 Named v (e ∷ es) = Names v e ⊎ Named v es
 
-pub named_push : (v : Version) (es : List Entry) (e : Entry) → Named v (es ++ e ∷ []) → Named v es ⊎ Names v e
+pub named_push : (v : Version) (es : List Entry) (e : Entry) → Named v (es ++ e ∷ [])
+    → Named v es ⊎ Names v e
 named_push v [] e named = ⊎_elim inr absurd named
-named_push v (f ∷ es) e named = ⊎_elim (λ h. inl (inl h)) (λ h. ⊎_elim (λ k. inl (inr k)) inr (named_push v es e h)) named
+named_push v (f ∷ es) e named =
+    ⊎_elim (λ h. inl (inl h)) (λ h. ⊎_elim (λ k. inl (inr k)) inr (named_push v es e h))
+    named
 
 -- the length of a version's file, where it is present
 abbrev pub len_of : Folder → Version → Option ℕ
 len_of folder v = option_map length (folder (version_name v))
 
+-- the file is present with this length
+abbrev pub IsStanding : Folder → Version → ℕ → Type 0
+IsStanding folder v len = len_of folder v ≡ Some len
+
 -- each of these files is present with its length
 abbrev pub AllStand : Folder → List Kept → Type 0
 AllStand folder [] = Unit {0}
-AllStand folder (k ∷ ks) = (len_of folder k.0 ≡ Some k.1) × AllStand folder ks
+AllStand folder (k ∷ ks) = IsStanding folder k.0 k.1 × AllStand folder ks
 
 -- the first of these files that is absent or has another length than this one that was kept
-pub record IsFirstLost (folder : Folder) (ks : List Kept) (v : Version) (kept : ℕ) (found : Option ℕ) : Type 0 where
+pub record IsFirstLost (folder : Folder) (ks : List Kept) (v : Version) (kept : ℕ)
+    (found : Option ℕ) : Type 0 where
   pub before : List Kept
   pub behind : List Kept
   pub parts : ks ≡ before ++ (v, kept) ∷ behind

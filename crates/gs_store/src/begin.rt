@@ -1,15 +1,11 @@
 // The beginning of a record.
 ghost use Rattle.std.specs.Prelude.{◌≡◌, [], ◌∷◌, true, false, OnOk, IfOk, IfErr};
-ghost use Rattle.gs_disk.specs.Folder.{KeepsOthers};
-ghost use Rattle.gs_disk.specs.Moments.{LeavesOnly};
-ghost use Rattle.gs_log.specs.Names.{log_name, mark_name};
 ghost use Rattle.gs_entries.specs.Entries.{entry};
 ghost use Rattle.gs_entries.specs.Order.{stage_of};
 ghost use Rattle.gs_entries.specs.declared.entry.Stage.TheVariants as stages;
 ghost use Rattle.gs_entries.specs.declared.entry.Entry.TheVariants as made;
-ghost use Rattle.gs_store.specs.State.{IsDiskOf};
-ghost use Rattle.gs_store.specs.Spans.{Stays};
-ghost use Rattle.gs_store.specs.Told.{IsOutside, HasCause, BeginsEntry};
+ghost use Rattle.gs_store.specs.State.{IsDiskOf, no_entries, with_entry};
+ghost use Rattle.gs_store.specs.Told.{FailsOutside, MakesLog, BeginsEntry};
 
 use crate::err::{StoreErr, outside_err};
 use crate::store::Store;
@@ -35,13 +31,9 @@ impl Store {
     fn make_log<D: Disk>(&mut self, alloc: Global, disk: &mut D) -> Result<(), StoreErr>
         requires none { self.old.entries ≡ [] }
         requires disk_of_store { D.tells → IsDiskOf self.old (D.state disk.old) }
-        ensures entries { self.new.entries ≡ [] }
-        ensures marked { OnOk result (self.new.marked ≡ true) }
-        ensures any_moment { D.tells → Stays [] (D.state disk.old) (D.state disk.new) }
-        ensures others { D.tells → KeepsOthers (log_name ∷ mark_name ∷ []) (D.state disk.old).folder (D.state disk.new).folder }
-        ensures disk_of_store { D.tells → OnOk result (IsDiskOf self.new (D.state disk.new)) }
-        ensures cause { HasCause (D.state disk.old) (D.state disk.new) result }
-        ensures refused { IfErr result IsOutside }
+        ensures store { OnOk result (self.new ≡ no_entries) }
+        ensures makes { D.tells → MakesLog (D.state disk.old) (D.state disk.new) result }
+        ensures fails { FailsOutside (D.state disk.old) (D.state disk.new) result }
     {
         if self.log.is_some() {
             return Ok(());
@@ -55,18 +47,16 @@ impl Store {
         }
     }
 
-    /// Begins the record of a run of these texts, over a store in which nothing is recorded. It answers only
-    /// `DiskFault` and `NoMemory`.
+    /// Begins the record of a run of these texts, over a store in which nothing is recorded. It
+    /// answers only `DiskFault` and `NoMemory`.
     pub fn begin<D: Disk>(&mut self, alloc: Global, disk: &mut D, t: &Texts) -> Result<(), StoreErr>
         requires fresh { stage_of self.old.entries ≡ stages.Fresh }
         requires fits { entry.fits (made.Header t.now) ≡ true }
         requires disk_of_store { D.tells → IsDiskOf self.old (D.state disk.old) }
-        ensures entries { OnOk result (self.new.entries ≡ made.Header t.now ∷ []) }
-        ensures marked { OnOk result (self.new.marked ≡ true) }
-        ensures begins { D.tells → BeginsEntry (made.Header t.now) (D.state disk.old) (D.state disk.new) result }
-        ensures disk_of_store { D.tells → OnOk result (IsDiskOf self.new (D.state disk.new)) }
-        ensures cause { HasCause (D.state disk.old) (D.state disk.new) result }
-        ensures refused { IfErr result IsOutside }
+        ensures store { OnOk result (self.new ≡ with_entry no_entries (made.Header t.now)) }
+        ensures begins { D.tells
+            → BeginsEntry (made.Header t.now) (D.state disk.old) (D.state disk.new) result }
+        ensures fails { FailsOutside (D.state disk.old) (D.state disk.new) result }
     {
         let _ = &self.book;
         let t = copy_of(alloc, t)?;

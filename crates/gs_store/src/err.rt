@@ -13,7 +13,8 @@ use thiserror::Error;
 /// Why a call of the store failed.
 #[derive(Debug, Drop, Error)]
 pub enum StoreErr {
-    /// The file of the log is none. `at` is the place of the gate of the first record that doesn't fit.
+    /// The file of the log is none. `at` is the place of the gate of the first record that does
+    /// not fit.
     #[error("bad log at {at}")]
     BadLog {
         at: u64,

@@ -1,11 +1,8 @@
 // Loading a store.
-ghost use Rattle.std.specs.Prelude.{◌≡◌, None, OnOk, IfOk, IfErr, MatchOption};
+ghost use Rattle.std.specs.Prelude.{◌≡◌, OnOk, IfOk, IfErr};
 ghost use Rattle.gs_disk.specs.Folder.{Same};
 ghost use Rattle.gs_disk.specs.Moments.{Passes, LeavesOnly};
-ghost use Rattle.gs_log.specs.Names.{mark_name};
-ghost use Rattle.gs_log.specs.Holding.{Holds};
-ghost use Rattle.gs_store.specs.Loading.{RefusesList, RefusesLog, Refuses, IsReadFrom, IsStoreOf};
-ghost use Rattle.gs_store.specs.State.{IsDiskOf};
+ghost use Rattle.gs_store.specs.Loading.{RefusesList, RefusesLog, Refuses, IsReadFrom, IsLogIn, IsLoaded};
 ghost use Rattle.gs_store.specs.Told.{HasCause};
 
 use crate::err::StoreErr;
@@ -18,11 +15,12 @@ use std::alloc::Global;
 
 /// The log of a disk; `None` exactly where there is no mark.
 fn open_log<D: Disk>(alloc: Global, disk: &mut D) -> Result<Option<Log>, StoreErr>
-    ensures found { D.tells → IfOk result (λ found. MatchOption found ((D.state disk.new).folder mark_name ≡ None) (λ log. Holds log (D.state disk.new).folder)) }
+    ensures found { D.tells → IfOk result (IsLogIn (D.state disk.new).folder) }
     ensures refused { D.tells → IfErr result (RefusesLog (D.state disk.new).folder) }
     ensures same { D.tells → (D.state disk.new).folder ≡ (D.state disk.old).folder }
     ensures images { D.tells → Passes Same (D.state disk.old) (D.state disk.new) }
-    ensures only { D.tells → OnOk result (LeavesOnly (D.state disk.new).folder (D.state disk.new)) }
+    ensures only { D.tells → OnOk result
+        (LeavesOnly (D.state disk.new).folder (D.state disk.new)) }
     ensures cause { HasCause (D.state disk.old) (D.state disk.new) result }
 {
     match Log::load(alloc, disk) {
@@ -34,8 +32,8 @@ fn open_log<D: Disk>(alloc: Global, disk: &mut D) -> Result<Option<Log>, StoreEr
     }
 }
 
-/// The entries of a log. `BadRecord` exactly where a payload is no entry or stands out of order, with the
-/// index of the first.
+/// The entries of a log. `BadRecord` exactly where a payload is no entry or stands out of order,
+/// with the index of the first.
 fn read_book(alloc: Global, log: &Log) -> Result<Book, StoreErr>
     ensures read { IfOk result (λ book. IsReadFrom log.now book) }
     ensures refused { IfErr result (RefusesList log.now) }
@@ -52,17 +50,15 @@ fn read_book(alloc: Global, log: &Log) -> Result<Book, StoreErr>
 }
 
 impl Store {
-    /// Reads the store of a disk. It begins with a sync, and writes nothing. In this order: `BadLog` exactly
-    /// where the log's file is none, `BadRecord` exactly where a record is no entry or stands out of order,
-    /// with the first, and `LostVersion` exactly where the file of a version that the entries name is absent
-    /// or of another length, with the first.
+    /// Reads the store of a disk. It begins with a sync, and writes nothing. In this order:
+    /// `BadLog` exactly where the log's file is none, `BadRecord` exactly where a record is no entry
+    /// or stands out of order, with the first, and `LostVersion` exactly where the file of a version
+    /// that the entries name is absent or of another length, with the first.
     pub fn load<D: Disk>(alloc: Global, disk: &mut D) -> Result<Store, StoreErr>
-        ensures found { D.tells → IfOk result (λ store. IsStoreOf store (D.state disk.new).folder) }
+        ensures loaded { D.tells → IfOk result (IsLoaded (D.state disk.new)) }
         ensures refused { D.tells → IfErr result (Refuses (D.state disk.new).folder) }
-        ensures disk_of_store { D.tells → IfOk result (λ store. IsDiskOf store (D.state disk.new)) }
         ensures same { D.tells → (D.state disk.new).folder ≡ (D.state disk.old).folder }
         ensures images { D.tells → Passes Same (D.state disk.old) (D.state disk.new) }
-        ensures only { D.tells → OnOk result (LeavesOnly (D.state disk.new).folder (D.state disk.new)) }
         ensures cause { HasCause (D.state disk.old) (D.state disk.new) result }
     {
         let log = match open_log(alloc, disk) {

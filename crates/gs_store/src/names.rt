@@ -62,7 +62,7 @@ pub fn version_file(v: &Version) -> DiskName
 }
 
 /// The same version again.
-pub fn copy_of(v: &Version) -> Version
+pub fn copy_version(v: &Version) -> Version
     ensures { result ≡ v.now }
 {
     match v {

@@ -3,20 +3,19 @@ ghost use Rattle.std.specs.Prelude.{◌≡◌, ◌≤◌, IfOk, IfErr};
 ghost use Rattle.gs_types.specs.declared.limits.TheConstants.{FILE_LIMIT};
 ghost use Rattle.gs_disk.specs.Folder.{Same};
 ghost use Rattle.gs_disk.specs.Moments.{Passes};
-ghost use Rattle.gs_store.specs.Names.{version_name};
-ghost use Rattle.gs_store.specs.Loading.{RefusesFile, IsFileOf};
+ghost use Rattle.gs_store.specs.Loading.{RefusesFile, IsVersion};
 ghost use Rattle.gs_store.specs.Told.{HasCause};
 
 use crate::err::StoreErr;
-use crate::names::{copy_of, version_file};
+use crate::names::{copy_version, version_file};
 use crate::store::Store;
 use gs_disk::{Disk, DiskErr, Whole, read_whole};
 use gs_types::{Blob, Version};
 use std::alloc::Global;
 
 impl Store {
-    /// The bytes of a version whose length of at most `FILE_LIMIT` was kept. `LostVersion` exactly where its
-    /// file is absent or of another length.
+    /// The bytes of a version whose length of at most `FILE_LIMIT` was kept. `LostVersion` exactly
+    /// where its file is absent or of another length.
     pub fn read_version<D: Disk>(
         &self,
         alloc: Global,
@@ -25,8 +24,9 @@ impl Store {
         kept: u64,
     ) -> Result<Blob, StoreErr>
         requires { kept ≤ FILE_LIMIT }
-        ensures value { D.tells → IfOk result (IsFileOf ((D.state disk.old).folder (version_name v.now)) kept) }
-        ensures refused { D.tells → IfErr result (RefusesFile (D.state disk.old).folder v.now kept) }
+        ensures value { D.tells → IfOk result (IsVersion (D.state disk.old).folder v.now kept) }
+        ensures refused { D.tells
+            → IfErr result (RefusesFile (D.state disk.old).folder v.now kept) }
         ensures same { D.tells → (D.state disk.new).folder ≡ (D.state disk.old).folder }
         ensures images { D.tells → Passes Same (D.state disk.old) (D.state disk.new) }
         ensures cause { HasCause (D.state disk.old) (D.state disk.new) result }
@@ -45,7 +45,7 @@ impl Store {
             Err(DiskErr::Memory) => return Err(StoreErr::NoMemory),
         };
         Err(StoreErr::LostVersion {
-            version: copy_of(v),
+            version: copy_version(v),
             kept,
             found,
         })

@@ -4,7 +4,8 @@ use gs_types::{Name, Settings};
 /// Tasks of a run that makes itself. The least is 1.
 pub const SELF_LIMIT: u64 = 2_000;
 
-/// The commands: `run IDL PROGRAM WORKERS` with its options, `check IDL PROGRAM`, `report`, `clean`, and `self SEED N`.
+/// The commands: `run IDL PROGRAM WORKERS` with its options, `check IDL PROGRAM`, `report`, `clean`,
+/// and `self SEED N`.
 #[derive(Drop)]
 pub enum Command {
     Run {

@@ -71,9 +71,10 @@ fn read_clean(words: &Vec<String>) -> Result<Command, Usage>
     Ok(Command::Clean)
 }
 
-/// The command that the words say: a verb, its names or numbers, and behind those of `run` the options `--fuel`,
-/// `--window` and `--tries`, each with its number and at most once. Numbers are 1 to 20 digits within their limits. The
-/// error is the place, from 0, of the first word with which no command goes on, or the number of words.
+/// The command that the words say: a verb, its names or numbers, and behind those of `run` the
+/// options `--fuel`, `--window` and `--tries`, each with its number and at most once. Numbers are 1
+/// to 20 digits within their limits. The error is the place, from 0, of the first word with which
+/// no command goes on, or the number of words.
 pub fn read(words: &Vec<String>) -> Result<Command, Usage>
     ensures { IsReading (map string_bytes words.now.items) result }
 {

@@ -40,7 +40,8 @@ fn number_in(word: &str, least: u64, most: u64) -> Option<u64>
 
 /// The number at a place.
 pub(crate) fn number_at(words: &Vec<String>, at: u32, least: u64, most: u64) -> Result<u64, Usage>
-    ensures { MatchResult result (λ n. IsNumberAt (map string_bytes words.now.items) at least most n)
+    ensures { MatchResult result
+        (λ n. IsNumberAt (map string_bytes words.now.items) at least most n)
         (λ u. (u.word ≡ at) × NoNumberAt (map string_bytes words.now.items) at least most) }
 {
     let usage = Usage { word: at };

@@ -6,9 +6,12 @@ make_log-requires-clause-none g c = none_if_fresh c.args.self.now.entries c.requ
 
 pub returns-in-Err-clause-begins : goal.returns-in-Err-clause-begins
 returns-in-Err-clause-begins g c = λ told.
-    not_begun c.in-Err.failure c.args.t.now (g.D.Disk.state c.args.disk.now) (g.D.Disk.state c.make_log.new.disk) (c.make_log.ensures.any_moment told) (c.make_log.ensures.others told)
+    not_begun c.make_log.result c.in-Err.failure c.args.t.now (g.D.Disk.state c.args.disk.now)
+    (g.D.Disk.state c.make_log.new.disk) (c.make_log.ensures.makes told)
 
 pub returns-clause-begins : goal.returns-clause-begins
 returns-clause-begins g c = λ told.
-    begun c.add.result c.args.t.now c.in_ok-t.t c.make_log.new.self.entries (g.D.Disk.state c.args.disk.now) (g.D.Disk.state c.make_log.new.disk) (g.D.Disk.state c.add.new.disk) c.make_log.ensures.entries c.in_ok-t.ensures
-    (c.make_log.ensures.any_moment told) (c.make_log.ensures.others told) (c.add.ensures.adds told)
+    begun c.add.result c.in_default.field-0 c.args.t.now c.in_ok-t.t c.make_log.new.self
+    (g.D.Disk.state c.args.disk.now) (g.D.Disk.state c.make_log.new.disk)
+    (g.D.Disk.state c.add.new.disk) c.in_default.ensures.store c.in_ok-t.ensures
+    (c.in_default.ensures.makes told) (c.add.ensures.adds told)

@@ -1,0 +1,4 @@
+pub mod Copies
+pub mod Fitting
+pub mod Removing
+pub mod Setting
