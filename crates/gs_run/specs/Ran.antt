@@ -105,8 +105,8 @@ pub record Untouched (old new : DiskState) : Type 0 where
   pub files : (x : List ℕ) → new.folder x ≡ old.folder x
   pub images : Passes Same old new
 
--- All tasks of the run have finished, and it ended. Its files may be written; every other file reads
--- as before, and in each image, within the call too, is as in one of before.
+-- All tasks of the run have finished, and it ended. Its files may be written; every other file
+-- reads as before, and in each image, within the call too, is as in one of before.
 pub record Written (law : Meaning) (idl program workers : List ℕ) (tells : History → Type 0)
     (past : History) (old new : DiskState) : Type 0 where
   pub ended : IsServed old.folder idl program workers (λ i p worker.

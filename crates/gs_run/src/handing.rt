@@ -41,7 +41,8 @@ pub(crate) fn hand_over<D: Disk, O: Sink>(
     ensures others { D.tells → KeepsUnchanged (changed_files changed.now)
         (D.state disk.old).folder (D.state disk.new).folder }
     ensures images { D.tells
-        → Passes (KeepsUnchanged (changed_files changed.now)) (D.state disk.old) (D.state disk.new) }
+        → Passes (KeepsUnchanged (changed_files changed.now))
+        (D.state disk.old) (D.state disk.new) }
     ensures wrote { O.tells → HandWrote text.now (O.written out.old) (O.written out.new) result }
 {
     if let Err(e) = write_files(disk, changed) {

@@ -118,8 +118,8 @@ fn tree_of(alloc: Global, text: &Text, name: &Name) -> Result<Tree, Refusal>
     }
 }
 
-/// Reads the interface and the program, and checks the program. Where one goes wrong, `BadText` with
-/// the first fault.
+/// Reads the interface and the program, and checks the program. Where one goes wrong, `BadText`
+/// with the first fault.
 pub(crate) fn checked(
     alloc: Global,
     idl_name: &Name,
@@ -167,8 +167,8 @@ pub(crate) struct Texts {
     pub workers: Text,
 }
 
-/// Reads the three texts. `NoText` exactly where one is absent, with the first in the order IDL, program,
-/// worker list.
+/// Reads the three texts. `NoText` exactly where one is absent, with the first in the order IDL,
+/// program, worker list.
 pub(crate) fn read_texts<D: Disk>(
     alloc: Global,
     disk: &mut D,

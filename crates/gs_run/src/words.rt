@@ -54,7 +54,8 @@ fn has_verb(words: &Vec<String>, verb: &str) -> bool
 fn read_run(words: &Vec<String>) -> Result<Words, usize>
     requires { HasVerb (map string_bytes words.now.items) (codes "run") }
     ensures { let texts = map string_bytes words.now.items
-        in MatchResult result (λ w. IsRun texts w.idl w.program w.workers) (λ at. IsUsage texts at) }
+        in MatchResult result
+        (λ w. IsRun texts w.idl w.program w.workers) (λ at. IsUsage texts at) }
 {
     let idl = name_at(words, 1)?;
     let program = name_at(words, 2)?;
@@ -82,8 +83,9 @@ fn read_check(words: &Vec<String>) -> Result<CheckWords, usize>
     Ok(CheckWords { idl, program })
 }
 
-/// Reads the words of a command: `run IDL PROGRAM WORKERS` or `check IDL PROGRAM`. The error is the place,
-/// from 0, of the first word with which no command goes on, or the number of words where they are too few.
+/// Reads the words of a command: `run IDL PROGRAM WORKERS` or `check IDL PROGRAM`. The error is the
+/// place, from 0, of the first word with which no command goes on, or the number of words where
+/// they are too few.
 pub(crate) fn read_words(words: &Vec<String>) -> Result<Command, usize>
     ensures { Asks (map string_bytes words.now.items) (wish_of result) }
 {

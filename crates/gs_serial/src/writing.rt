@@ -23,8 +23,8 @@ fn write_file<D: Disk>(disk: &mut D, name: &DiskName, bytes: &[u8]) -> Result<()
     Ok(())
 }
 
-/// Writes each changed file into the folder, once, and then syncs. No other file is touched, also in
-/// what a crash may leave at any moment. After `Ok` the folder is all that a crash may leave; an
+/// Writes each changed file into the folder, once, and then syncs. No other file is touched, also
+/// in what a crash may leave at any moment. After `Ok` the folder is all that a crash may leave; an
 /// error is the disk's, and then some of the files may have been written.
 pub fn write_files<D: Disk>(disk: &mut D, changed: &Changed) -> Result<(), DiskErr>
     requires { Covers changed.now.names (changed_files changed.now) }
@@ -35,7 +35,8 @@ pub fn write_files<D: Disk>(disk: &mut D, changed: &Changed) -> Result<(), DiskE
     ensures only { D.tells
         → OnOk result (LeavesOnly (D.state disk.new).folder (D.state disk.new)) }
     ensures images { D.tells
-        → Passes (KeepsUnchanged (changed_files changed.now)) (D.state disk.old) (D.state disk.new) }
+        → Passes (KeepsUnchanged (changed_files changed.now))
+        (D.state disk.old) (D.state disk.new) }
     ensures cause { HasCause (D.state disk.old) (D.state disk.new) result }
 {
     for name in changed.names.items() {
