@@ -23,9 +23,9 @@ use Rattle.gs_main.specs.declared.waits.Waits.TheVariants as w
 use Rattle.gs_main.specs.declared.waits.Pause.{Pause}
 use Rattle.gs_main.specs.declared.waits.Pause.TheVariants as p
 use Rattle.gs_main.specs.declared.work.Work.{Work}
-use Rattle.gs_main.specs.declared.passed.Passed.{Passed}
+use Rattle.gs_pieces.specs.declared.passed.Passed.{Passed}
 use Rattle.gs_main.specs.Lasts.{last_question}
-use Rattle.gs_main.specs.Places.{FindsPassed}
+use Rattle.gs_pieces.specs.Places.{FindsPassed}
 use Rattle.gs_main.specs.Seen.{state_of, for_value, allowed, asked_use, Evaluation, Evaluated, Meets, paused, Does}
 
 -- ---- evaluations

@@ -3,10 +3,8 @@ pub mod Leaving
 pub mod Within
 pub mod Meaning
 pub mod Moving
-pub mod Passing
 pub mod Doing
 pub mod Settling
 pub mod Faults
 pub mod Replying
 pub mod Asking
-pub mod Noting

@@ -18,4 +18,5 @@ call_in o = None
 -- the call's line, its arguments, of which there are fewer than 255, and the place behind it
 abbrev pub IsCallAt : Option CallAt → Option (ℕ × Bor (List code.Handed) × ℕ) → Type 0
 IsCallAt o None = o ≡ None
-IsCallAt o (Some r) = (o ≡ Some (record { line = r.0; args = map handed_of r.1.now; next = r.2 })) × (length r.1.now < 255)
+IsCallAt o (Some r) = (o ≡ Some (record { line = r.0; args = map handed_of r.1.now; next = r.2 }))
+    × (length r.1.now < 255)

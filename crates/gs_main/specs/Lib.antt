@@ -1,5 +1,4 @@
 pub mod Talking
-pub mod Notes
 pub mod Meanings
 pub mod Machine
 pub mod Short
@@ -7,5 +6,4 @@ pub mod Lasts
 pub mod CallAt
 pub mod Seen
 pub mod Parts
-pub mod Places
 pub mod Shown

@@ -9,15 +9,16 @@ use Rattle.gs_talk.specs.declared.taken.Line.{Line}
 use Rattle.gs_talk.specs.declared.taken.Line.TheVariants as line
 use Rattle.gs_talk.specs.Texts.{Taken, no_more, got, read_line_at}
 use Rattle.gs_talk.specs.Talk.{State, Opened, writes, fault_if, with_name}
-use Rattle.gs_main.specs.declared.read_err.ReadErr.{ReadErr}
-use Rattle.gs_main.specs.declared.read_err.ReadErr.TheVariants as err
+use Rattle.gs_pieces.specs.declared.read_err.ReadErr.{ReadErr}
+use Rattle.gs_pieces.specs.declared.read_err.ReadErr.TheVariants as err
 
 -- whether one name more is too many
 abbrev pub names_fault : State → List ℕ → Option FaultKind
 names_fault s name = fault_if (nat_lt NAME_LIMIT (length (with_name s.names name))) TooManyNames
 
 -- the name, where nothing but the last may stand against it; or what does
-abbrev pub Opens : (fault last : Option FaultKind) → List ℕ → Result (List ℕ) FaultKind → Type 0
+abbrev pub Opens : (fault last : Option FaultKind) → List ℕ → Result (List ℕ) FaultKind
+    → Type 0
 Opens fault last text (Ok name) = (fault ≡ last) × (name ≡ text)
 Opens fault last text (Err kind) = fault ≡ Some kind
 

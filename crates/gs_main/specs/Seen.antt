@@ -29,10 +29,24 @@ abbrev pub given_of : Script → Given
 given_of p = given_by p.idl_name p.program_name (interface_in p.checked) (program_in p.checked)
 
 abbrev pub state_of : Work → State
-state_of w = record { vars = w.vars.items; handles = w.handles.items; text = w.text.items; names = w.names.keys; tasks = w.tasks; actions = w.actions }
+state_of w = record {
+  vars = w.vars.items;
+  handles = w.handles.items;
+  text = w.text.items;
+  names = w.names.keys;
+  tasks = w.tasks;
+  actions = w.actions;
+}
 
 abbrev pub first_state : List (Name × VarKind) → State
-first_state vars = record { vars = map (λ v. first_slot v.1) vars; handles = map (λ v. None) vars; text = []; names = []; tasks = 0; actions = 0 }
+first_state vars = record {
+  vars = map (λ v. first_slot v.1) vars;
+  handles = map (λ v. None) vars;
+  text = [];
+  names = [];
+  tasks = 0;
+  actions = 0;
+}
 
 -- ---- what a machine waits for
 
@@ -96,10 +110,13 @@ abbrev pub Evaluation : Type 0 → Type 0
 Evaluation A = (A → State → Dialogue) → State → Dialogue
 
 -- it has a value; or it asked for a variable's, after which it begins again; or it met a fault
-abbrev pub Evaluated : {A B : Type 0} → (B → A) → Evaluation A → Work → Result B Pause → Work → Type 0
-Evaluated {A} {B} shown e old (Ok x) new = ((go : A → State → Dialogue) → e go (state_of old) ≡ go (shown x) (state_of old)) × (new ≡ old)
+abbrev pub Evaluated : {A B : Type 0} → (B → A) → Evaluation A → Work → Result B Pause → Work
+    → Type 0
+Evaluated {A} {B} shown e old (Ok x) new =
+    ((go : A → State → Dialogue) → e go (state_of old) ≡ go (shown x) (state_of old)) × (new ≡ old)
 Evaluated {A} {B} shown e old (Err (p.Asks x)) new =
-    ((go : A → State → Dialogue) → e go (state_of old) ≡ asked_use new.waits x (state_of new) (λ u. e go u))
+    ((go : A → State → Dialogue) → e go (state_of old)
+    ≡ asked_use new.waits x (state_of new) (λ u. e go u))
     × (for_value new.waits ≡ true) × Keeps new.waits x
 Evaluated {A} {B} shown e old (Err p.NoMemory) new = ⊤
 
@@ -117,7 +134,8 @@ IsOfProgram t.NoMemory = ⊥
 -- a trouble was met: it asked for the variable's value, or the fault ends it
 abbrev pub Meets : (line : ℕ) → trouble.Trouble → Work → Pause → Work → Type 0
 Meets line e old (p.Asks x) new =
-    ((again : State → Dialogue) → troubled line (state_of old) again e ≡ asked_use new.waits x (state_of new) again)
+    ((again : State → Dialogue) → troubled line (state_of old) again e
+    ≡ asked_use new.waits x (state_of new) again)
     × (for_value new.waits ≡ true) × Keeps new.waits x × IsOfProgram e
 Meets line e old p.NoMemory new = e ≡ t.NoMemory
 
@@ -131,15 +149,19 @@ paused m line args w.Word x n s = Ask x s (λ a. Done n s)
 paused m line args (w.Ended last) x n s = Stop x s
 
 -- an order of this meaning was done; or it asked
-abbrev pub Does : (value call : Bool) → Meaning → (line : ℕ) → List Handed → Work → Result (Unit {0}) Pause → Work → Type 0
-Does value call m line args old (Ok u) new = ((n : ℕ) → m n (state_of old) ≡ Done n (state_of new)) × (new.waits ≡ old.waits)
+abbrev pub Does : (value call : Bool) → Meaning → (line : ℕ) → List Handed → Work
+    → Result (Unit {0}) Pause → Work → Type 0
+Does value call m line args old (Ok u) new = ((n : ℕ) → m n (state_of old) ≡ Done n (state_of new))
+    × (new.waits ≡ old.waits)
 Does value call m line args old (Err (p.Asks x)) new =
-    ((n : ℕ) → m n (state_of old) ≡ paused m line args new.waits x n (state_of new)) × (allowed value call new.waits ≡ true) × Keeps new.waits x
+    ((n : ℕ) → m n (state_of old) ≡ paused m line args new.waits x n (state_of new))
+    × (allowed value call new.waits ≡ true) × Keeps new.waits x
 Does value call m line args old (Err p.NoMemory) new = ⊤
 
 -- the program is left; or a variable's value is asked for
 abbrev pub Leaves : (go : State → Dialogue) → Work → Pause → Work → Type 0
-Leaves go old (p.Asks x) new = (go (state_of old) ≡ asked_use new.waits x (state_of new) go) × (for_value new.waits ≡ true) × Keeps new.waits x
+Leaves go old (p.Asks x) new = (go (state_of old) ≡ asked_use new.waits x (state_of new) go)
+    × (for_value new.waits ≡ true) × Keeps new.waits x
 Leaves go old p.NoMemory new = ⊤
 
 -- ---- where it stands
@@ -171,7 +193,8 @@ abbrev pub resumed : Given → List Order → Waits → (at steps : ℕ) → Sta
 resumed t orders w.Nothing at n s a = goes t orders at n s
 resumed t orders (w.Value i) at n s a = goes t orders at n (set_to i (taken a) s)
 resumed t orders w.Call at n s a = called t orders (call_in (step_at orders at)) n s a
-resumed t orders (w.Content line to name mode) at n s a = then_do (opened a line to name mode n s) (goes t orders at)
+resumed t orders (w.Content line to name mode) at n s a = then_do (opened a line to name mode n s)
+    (goes t orders at)
 resumed t orders w.Word at n s a = goes t orders at n s
 resumed t orders (w.Ended last) at n s a = Stop (last_question last) s
 
@@ -179,7 +202,8 @@ abbrev pub next_by : Given → List Order → Waits → (at steps : ℕ) → Sta
 next_by t orders w.Nothing at n s = Goes (goes t orders at n s)
 next_by t orders (w.Value i) at n s = Awaits a_value (resumed t orders (w.Value i) at n s)
 next_by t orders w.Call at n s = Awaits an_end (resumed t orders w.Call at n s)
-next_by t orders (w.Content line to name mode) at n s = Awaits a_content (resumed t orders (w.Content line to name mode) at n s)
+next_by t orders (w.Content line to name mode) at n s =
+    Awaits a_content (resumed t orders (w.Content line to name mode) at n s)
 next_by t orders w.Word at n s = Awaits a_word (resumed t orders w.Word at n s)
 next_by t orders (w.Ended last) at n s = Goes (Stop (last_question last) s)
 
@@ -191,21 +215,27 @@ going t orders r = goes t orders r.at r.steps (state_of r.work)
 
 -- it went on with fewer steps left; or it asks what comes next
 abbrev pub Moved : Given → List Order → Run → Result (Unit {0}) Pause → Run → Type 0
-Moved t orders old (Ok u) new = (going t orders old ≡ going t orders new) × (new.work.waits ≡ w.Nothing) × (new.steps < old.steps)
-Moved t orders old (Err (p.Asks x)) new = Asked (going t orders old) x (state_of new.work) (next_of t orders new)
+Moved t orders old (Ok u) new = (going t orders old ≡ going t orders new)
+    × (new.work.waits ≡ w.Nothing) × (new.steps < old.steps)
+Moved t orders old (Err (p.Asks x)) new =
+    Asked (going t orders old) x (state_of new.work) (next_of t orders new)
 Moved t orders old (Err p.NoMemory) new = ⊤
 
 -- a dialogue after an answer: it goes on at `next`, or it has ended
 abbrev pub WentOn : (next : ℕ) → Run → Dialogue → Type 0
-WentOn next new (Done n s) = (new.work.waits ≡ w.Nothing) × (new.at ≡ next) × (new.steps ≡ n) × (state_of new.work ≡ s)
-WentOn next new (Stop x s) = (last : Last) × (new.work.waits ≡ w.Ended last) × (x ≡ last_question last) × (state_of new.work ≡ s)
+WentOn next new (Done n s) = (new.work.waits ≡ w.Nothing) × (new.at ≡ next) × (new.steps ≡ n)
+    × (state_of new.work ≡ s)
+WentOn next new (Stop x s) = (last : Last) × (new.work.waits ≡ w.Ended last)
+    × (x ≡ last_question last) × (state_of new.work ≡ s)
 WentOn next new (Ask x s go) = ⊥
 
 -- what waited so goes on by an answer
 abbrev pub Replies : Given → List Order → Waits → (old : Run) → Answer → (new : Run) → Type 0
-Replies t orders wait old a new = next_of t orders new ≡ Goes (resumed t orders wait old.at old.steps (state_of old.work) a)
+Replies t orders wait old a new = next_of t orders new
+    ≡ Goes (resumed t orders wait old.at old.steps (state_of old.work) a)
 
 -- what the machine asks next; want of memory says nothing
 abbrev pub AsksOn : Given → List Order → Run → Result Question NoMemory → Run → Type 0
-AsksOn t orders old (Ok x) new = Asked (going t orders old) x (state_of new.work) (next_of t orders new)
+AsksOn t orders old (Ok x) new =
+    Asked (going t orders old) x (state_of new.work) (next_of t orders new)
 AsksOn t orders old (Err e) new = ⊤

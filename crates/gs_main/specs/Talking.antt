@@ -14,7 +14,8 @@ use Rattle.gs_talk.specs.Talk.{Given, State, Dialogue, Ask, Stop, Asks, start, d
 
 -- ---- questions and answers
 
--- what a question wants: a task's value, the end of a call, a file's content, or no more than that it was done
+-- what a question wants: a task's value, the end of a call, a file's content, or no more than that
+-- it was done
 pub data Wanted : Type 0 where
   a_value : Wanted
   an_end : Wanted
@@ -68,7 +69,8 @@ FitsWanted (Some w) a = Fits w a
 
 -- ---- how it goes on
 
--- it goes on as a dialogue; or its question is unanswered, and it goes on by the answer; or it found no memory
+-- it goes on as a dialogue; or its question is unanswered, and it goes on by the answer; or it
+-- found no memory
 pub data Next : Type 0 where
   Goes : Dialogue → Next
   Awaits : Wanted → (Answer → Dialogue) → Next
@@ -82,10 +84,16 @@ pub record Talking : Type 0 where
   pub next : Next
 
 abbrev pub given_by : (idl_name program_name : List ℕ) → Interface → Program → Given
-given_by idl_name program_name i p = record { idl_name = idl_name; program_name = program_name; ops = i.ops; program = p }
+given_by idl_name program_name i p = record {
+  idl_name = idl_name;
+  program_name = program_name;
+  ops = i.ops;
+  program = p;
+}
 
 -- as it begins
-abbrev pub first_talking : (idl_name program_name : List ℕ) → Interface → Program → (fuel : ℕ) → Talking
+abbrev pub first_talking : (idl_name program_name : List ℕ) → Interface → Program → (fuel : ℕ)
+    → Talking
 first_talking idl_name program_name i p fuel = record {
   given = given_by idl_name program_name i p;
   interface = i;
@@ -113,7 +121,8 @@ AwaitsAnswerTo q next = (a : Answer) → FitsWanted (wanted q) a → IsAnsweredB
 abbrev pub IsFreeAfter : Question → Next → Type 0
 IsFreeAfter q next = wanted q ≡ None → IsFree next
 
--- what goes on as d asks this question in this state, and goes on so; after a last question it stays as it is
+-- what goes on as d asks this question in this state, and goes on so; after a last question it
+-- stays as it is
 abbrev pub Asked : Dialogue → Question → State → Next → Type 0
 Asked d q s (Goes rest) = (d ≡ Stop q s) × (rest ≡ d) × (wanted q ≡ None)
 Asked d q s (Awaits w next) = (d ≡ Ask q s next) × (wanted q ≡ Some w)
@@ -141,8 +150,10 @@ pub record KeepsGiven (old new : Talking) : Type 0 where
 
 -- whatever is answered next, it goes on as the program does after these answers
 abbrev pub StandsFor : Next → Given → (fuel : ℕ) → List Answer → Type 0
-StandsFor (Goes d) t fuel answers = (more : List Answer) → talk t fuel (answers ++ more) ≡ after d more
-StandsFor (Awaits w next) t fuel answers = (a : Answer) (more : List Answer) → talk t fuel (answers ++ a ∷ more) ≡ after (next a) more
+StandsFor (Goes d) t fuel answers = (more : List Answer) → talk t fuel (answers ++ more)
+    ≡ after d more
+StandsFor (Awaits w next) t fuel answers = (a : Answer) (more : List Answer)
+    → talk t fuel (answers ++ a ∷ more) ≡ after (next a) more
 StandsFor Failed t fuel answers = ⊤
 
 -- the question is the program's next one after these answers, and the state is the program's then

@@ -4,9 +4,9 @@ ghost use Rattle.gs_tree.specs.View.{var_of};
 ghost use Rattle.gs_talk.specs.Talk.{first_slot};
 ghost use Rattle.gs_main.specs.Seen.{state_of, first_state};
 
-use crate::opened::Opened;
 use crate::waits::Waits;
 use crate::work::Work;
+use gs_pieces::Opened;
 use gs_talk::{Slot, first_slot};
 use gs_tree::Var;
 use gs_types::{Blob, NoMemory};

@@ -1,14 +1,12 @@
 // Task calls.
-use crate::handles::is_written;
-use crate::naming::name_in;
-use crate::notes::text_copy;
-use crate::passed::{Passed, has_twice, note_within, passed_all, written};
-use crate::read_err::ReadErr;
 use crate::script::Script;
 use crate::waits::{Pause, Waits};
 use crate::work::Work;
 use gs_idl::{Dir, ParamKind};
 use gs_orders::Handed;
+use gs_pieces::{
+    Passed, ReadErr, has_twice, is_written, name_in, note_within, passed_all, text_copy, written,
+};
 use gs_talk::{CallArg, Question, int_of, text_of};
 use gs_types::{FaultKind, Sequence, TASK_LIMIT};
 
@@ -19,7 +17,7 @@ impl Work {
     ghost use Rattle.gs_talk.specs.declared.question.CallArg.TheVariants as arg;
     ghost use Rattle.gs_talk.specs.Values.{text_of};
     ghost use Rattle.gs_orders.specs.Steps.{handed_of};
-    ghost use Rattle.gs_main.specs.Places.{AreFew, arg_in, args_in, Passes, PassAll, PassesFile};
+    ghost use Rattle.gs_pieces.specs.Places.{AreFew, arg_in, args_in, Passes, PassAll, PassesFile};
     ghost use Rattle.gs_main.specs.Meanings.{sending, sending_args};
     ghost use Rattle.gs_main.specs.Seen.{given_of, state_of, Does, Evaluated};
 
@@ -32,7 +30,8 @@ impl Work {
         text: &[u8],
     ) -> Result<CallArg, FaultKind>
         ensures { (p : Param) → p.dir ≡ dir → p.kind ≡ kind → PassesFile
-            (file_fault (given_of script.now) (state_of self.now) p (Some text.now)) text.now result }
+            (file_fault (given_of script.now) (state_of self.now) p (Some text.now))
+            text.now result }
     {
         let name = match name_in(text) {
             Some(name) => name,
@@ -82,7 +81,8 @@ impl Work {
     fn call_args(&self, script: &Script, op: u8, passed: &[Passed]) -> Result<Vec<CallArg>, ReadErr>
         requires { AreFew (length passed.now) (params_at (given_of script.now).ops op) }
         ensures { PassAll
-            (files_fault (given_of script.now) (state_of self.now) (params_at (given_of script.now).ops op) (args_in passed.now))
+            (files_fault (given_of script.now) (state_of self.now)
+            (params_at (given_of script.now).ops op) (args_in passed.now))
             (args_in passed.now) result }
     {
         let mut all = Vec::new(self.alloc);
@@ -111,7 +111,8 @@ impl Work {
     ) -> Result<(), Pause>
         requires { AreFew (length passed.now) (params_at (given_of script.now).ops op) }
         ensures { Does false true
-            (sending_args (given_of script.now) line op (map handed_of args.now) (args_in passed.now))
+            (sending_args (given_of script.now) line op
+            (map handed_of args.now) (args_in passed.now))
             line (map handed_of args.now) self.old result self.new }
     {
         let vs = match self.call_args(script, op, passed) {
@@ -157,7 +158,8 @@ impl Work {
         args: &[Handed],
     ) -> Result<Vec<Passed>, Pause>
         ensures values { Evaluated (λ all. args_in all.items)
-            (λ go s. passed_valued line (params_at (given_of script.now).ops op) (map handed_of args.now) s go)
+            (λ go s. passed_valued line (params_at (given_of script.now).ops op)
+            (map handed_of args.now) s go)
             self.old result self.new }
         ensures few { IfOk result (λ all.
             AreFew (vec_len all) (params_at (given_of script.now).ops op)) }

@@ -2,13 +2,13 @@
 #![tactic(auto, unfolding(crate::specs::Shown::talking))]
 
 use crate::begin::{first_work, names};
-use crate::notes::notes;
 use crate::run::Run;
 use crate::script::{Script, are_short};
 use crate::waits::Waits;
 use gs_check::Checked;
 use gs_idl::Idl;
 use gs_orders::orders_of;
+use gs_pieces::notes;
 use gs_talk::{Answer, Question};
 use gs_types::{Name, NoMemory, VarNote};
 use std::alloc::Global;
@@ -27,11 +27,11 @@ impl Main {
     ghost use Rattle.gs_talk.specs.declared.question.Answer as answer;
     ghost use Rattle.gs_talk.specs.Talk.{Given};
     ghost use Rattle.gs_main.specs.Talking.{first_talking, given_by, IsFree, IsAnsweredBy, AwaitsAnswerTo, IsFreeAfter, AsksNext, answered, KeepsGiven, StandsFor, TalksOn};
-    ghost use Rattle.gs_main.specs.Notes.{notes_of};
+    ghost use Rattle.gs_pieces.specs.Notes.{notes_of};
     ghost use Rattle.gs_main.specs.Shown.{talking};
 
-    /// A checked program at its beginning. `fuel` is how many steps it may take. The two names are those of its texts,
-    /// which it may not write. The only error is want of memory.
+    /// A checked program at its beginning. `fuel` is how many steps it may take. The two names are
+    /// those of its texts, which it may not write. The only error is want of memory.
     pub fn new(
         alloc: Global,
         checked: Checked,
@@ -39,10 +39,10 @@ impl Main {
         program_name: Name,
         fuel: u64,
     ) -> Result<Main, NoMemory>
-        ensures begins { IfOk result (λ m. talking m
-            ≡ first_talking idl_name program_name (interface_in checked) (program_in checked) fuel) }
-        ensures stands { let t = given_by idl_name program_name (interface_in checked) (program_in checked) in
-            IfOk result (λ m. StandsFor (talking m).next t fuel []) }
+        ensures begins { IfOk result (λ m. talking m ≡ first_talking idl_name program_name
+            (interface_in checked) (program_in checked) fuel) }
+        ensures stands { let t = given_by idl_name program_name (interface_in checked) (program_in checked)
+            in IfOk result (λ m. StandsFor (talking m).next t fuel []) }
         ensures free { IfOk result (λ m. IsFree (talking m).next) }
     {
         let tree = checked.tree();
@@ -68,8 +68,8 @@ impl Main {
         })
     }
 
-    /// The next question. After a last one, `End`, `Fault` or `FuelOut`, it is that one again. The only error is want of
-    /// memory, after which every later call gives that error.
+    /// The next question. After a last one, `End`, `Fault` or `FuelOut`, it is that one again. The
+    /// only error is want of memory, after which every later call gives that error.
     pub fn ask(&mut self) -> Result<Question, NoMemory>
         requires { IsFree (talking self.old).next }
         ensures asks { AsksNext (talking self.old).next result (talking self.new) }
@@ -134,8 +134,9 @@ impl Main {
         self.run.work.text.as_slice()
     }
 
-    /// The int and string variables with what they hold so far, in the order of declaration. A variable that waits for a
-    /// task is left out; none does after `End`. The only error is want of memory.
+    /// The int and string variables with what they hold so far, in the order of declaration. A
+    /// variable that waits for a task is left out; none does after `End`. The only error is want of
+    /// memory.
     pub fn vars(&self, alloc: Global) -> Result<Vec<VarNote>, NoMemory>
         ensures { IfOk result (λ notes. notes.items
             ≡ notes_of (talking self.now).given.program.vars (talking self.now).state.vars) }

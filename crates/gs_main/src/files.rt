@@ -2,14 +2,13 @@
 ghost use Rattle.std.specs.Prelude.{◌≡◌};
 ghost use Rattle.gs_main.specs.Parts.{first_due};
 
-use crate::handles::{change, go_to, is_any_open, is_open, is_written, open_count, opened};
-use crate::naming::name_in;
-use crate::opened::{Opened, writes};
-use crate::passed::note;
-use crate::read_err::ReadErr;
 use crate::script::Script;
 use crate::waits::{Last, Pause, Waits};
 use crate::work::Work;
+use gs_pieces::{
+    Opened, ReadErr, change, go_to, is_any_open, is_open, is_written, name_in, note, open_count,
+    opened_at, writes,
+};
 use gs_talk::{Formula, Line, Question, Slot, TalkErr, Trouble, text_of};
 use gs_tree::Mode;
 use gs_types::{Blob, FaultKind, HANDLE_LIMIT, NAME_LIMIT, Name, Value};
@@ -66,7 +65,8 @@ impl Work {
 
     /// A file is open at a handle, with this content.
     pub(crate) fn show_file(&mut self, to: usize, name: Name, mode: Mode, content: Blob)
-        ensures state { state_of self.new ≡ talk.with_handle to (Some (talk.fresh name mode content)) (state_of self.old) }
+        ensures state { state_of self.new
+            ≡ talk.with_handle to (Some (talk.fresh name mode content)) (state_of self.old) }
         ensures waits { self.new.waits ≡ self.old.waits }
     {
         change(
@@ -107,8 +107,8 @@ impl Work {
         text: &[u8],
         mode: Mode,
     ) -> Result<(), Pause>
-        ensures { Does false false (loading_named (given_of script.now) line to mode text.now) line []
-            self.old result self.new }
+        ensures { Does false false
+            (loading_named (given_of script.now) line to mode text.now) line [] self.old result self.new }
     {
         let name = match self.open_name(script, to, text, mode) {
             Ok(name) => name,
@@ -141,8 +141,8 @@ impl Work {
         path: &Formula,
         mode: Mode,
     ) -> Result<(), Pause>
-        ensures { Does true false (loading (given_of script.now) line to (placed_of path.now) mode) line []
-            self.old result self.new }
+        ensures { Does true false
+            (loading (given_of script.now) line to (placed_of path.now) mode) line [] self.old result self.new }
     {
         let v = match self.value(line, path) {
             Ok(v) => v,
@@ -154,7 +154,7 @@ impl Work {
     fn next_line(&self, handle: usize) -> Result<Line, ReadErr>
         ensures { NextLine (talk.opened_at (state_of self.now) handle) result }
     {
-        let h = match opened(&self.handles, handle) {
+        let h = match opened_at(&self.handles, handle) {
             Some(h) => h,
             None => {
                 return Err(ReadErr::Kind {
@@ -203,7 +203,7 @@ impl Work {
     pub(crate) fn save(&mut self, line: u32, handle: usize) -> Result<(), Pause>
         ensures { Does true false (saving line handle) line [] self.old result self.new }
     {
-        let mode = match opened(&self.handles, handle) {
+        let mode = match opened_at(&self.handles, handle) {
             None => return Err(self.fault(line, FaultKind::HandleClosed)),
             Some(h) => h.mode(),
         };

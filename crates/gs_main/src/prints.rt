@@ -1,8 +1,7 @@
 // Assignments and prints.
-use crate::handles::{append, opened};
-use crate::opened::writes;
 use crate::waits::Pause;
 use crate::work::Work;
+use gs_pieces::{append, opened_at, writes};
 use gs_talk::{Formula, format_bytes};
 use gs_types::{Blob, FILE_LIMIT, FaultKind, PRINTED_LIMIT, Text, TextErr, Value};
 
@@ -67,7 +66,8 @@ impl Work {
         }
     }
 
-    /// Want of memory comes also where a byte is none of a string; the reader of programs gives no such format.
+    /// Want of memory comes also where a byte is none of a string; the reader of programs gives no
+    /// such format.
     pub(crate) fn show_to(
         &mut self,
         line: u32,
@@ -93,7 +93,7 @@ impl Work {
     fn write_bytes(&mut self, line: u32, i: usize, out: &[u8]) -> Result<(), Pause>
         ensures { Does false false (writing_at line i out.now) line [] self.old result self.new }
     {
-        match opened(&self.handles, i) {
+        match opened_at(&self.handles, i) {
             None => Err(self.fault(line, FaultKind::HandleClosed)),
             Some(h) => {
                 if !writes(h.mode()) {

@@ -2,11 +2,11 @@
 ghost use Rattle.std.specs.Prelude.{◌≡◌};
 ghost use Rattle.gs_talk.specs.Talk.{taken};
 
-use crate::passed::pend;
 use crate::run::Run;
 use crate::script::Script;
 use crate::waits::{Last, Waits};
 use gs_orders::Handed;
+use gs_pieces::pend;
 use gs_talk::Answer;
 use gs_tree::Mode;
 use gs_types::{Blob, FaultKind, Name, Value};
@@ -29,7 +29,9 @@ impl Run {
     ghost use Rattle.gs_main.specs.Seen.{given_of, state_of, IsWaiting, next_of, WentOn, Replies};
 
     fn end(&mut self, line: u32, kind: FaultKind)
-        ensures { self.new ≡ record self.old { work = record self.old.work { waits = Waits.Ended (Last.Fault line kind) } } }
+        ensures { self.new ≡ record self.old {
+          work = record self.old.work { waits = Waits.Ended (Last.Fault line kind) };
+        } }
     {
         self.work.waits = Waits::Ended {
             last: Last::Fault { line, kind },
@@ -39,7 +41,8 @@ impl Run {
     // A call was ended.
     fn end_call(&mut self, line: u32, args: &[Handed], next: usize, a: &Answer)
         requires { length args.now < 255 }
-        ensures { WentOn next self.new (talk.went a.now line (map handed_of args.now) self.old.steps (state_of self.old.work)) }
+        ensures { WentOn next self.new (talk.went a.now line (map handed_of args.now)
+            self.old.steps (state_of self.old.work)) }
     {
         match a {
             Answer::Absent => self.end(line, FaultKind::NoFile),
@@ -54,7 +57,8 @@ impl Run {
 
     // The file of an answer is open.
     fn show_file(&mut self, to: usize, name: Name, mode: Mode, content: Blob)
-        ensures { WentOn self.old.at self.new (talk.shows to name mode content self.old.steps (state_of self.old.work)) }
+        ensures { WentOn self.old.at self.new (talk.shows to name mode content
+            self.old.steps (state_of self.old.work)) }
     {
         self.work.show_file(to, name, mode, content);
         self.work.waits = Waits::Nothing;
@@ -62,7 +66,8 @@ impl Run {
 
     // A file was opened.
     fn end_open(&mut self, line: u32, to: usize, name: Name, mode: Mode, a: Answer)
-        ensures { WentOn self.old.at self.new (talk.opened a line to name mode self.old.steps (state_of self.old.work)) }
+        ensures { WentOn self.old.at self.new (talk.opened a line to name mode
+            self.old.steps (state_of self.old.work)) }
     {
         let none = Blob::of(Vec::new(self.work.alloc));
         match a {
@@ -81,7 +86,8 @@ impl Run {
     // The call at which it stands was ended.
     fn end_called(&mut self, script: &Script, a: &Answer)
         requires { self.old.work.waits ≡ Waits.Nothing }
-        ensures { Replies (given_of script.now) script.now.orders.items Waits.Call self.old a.now self.new }
+        ensures { Replies (given_of script.now) script.now.orders.items
+            Waits.Call self.old a.now self.new }
     {
         match script.call_at(self.at) {
             Some((line, args, next)) => self.end_call(line, args, next, a),
@@ -96,7 +102,8 @@ impl Run {
     /// Takes the answer to the last question.
     pub(crate) fn answer(&mut self, script: &Script, a: Answer)
         requires { IsWaiting self.old.work.waits }
-        ensures { Replies (given_of script.now) script.now.orders.items self.old.work.waits self.old a self.new }
+        ensures { Replies (given_of script.now) script.now.orders.items
+            self.old.work.waits self.old a self.new }
     {
         match std::mem::replace(&mut self.work.waits, Waits::Nothing) {
             Waits::Nothing => {}

@@ -5,11 +5,10 @@ ghost use Rattle.gs_orders.specs.Steps.{step_of};
 ghost use Rattle.gs_main.specs.Short.{is_short};
 ghost use Rattle.gs_main.specs.CallAt.{call_in, IsCallAt};
 
-use crate::opened::writes;
-use crate::passed::leaves_file;
 use gs_check::Checked;
 use gs_idl::{Dir, Idl, ParamKind};
 use gs_orders::{Handed, Order};
+use gs_pieces::{leaves_file, writes};
 use gs_tree::Mode;
 use gs_types::Name;
 

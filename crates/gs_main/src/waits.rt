@@ -12,8 +12,8 @@ pub(crate) enum Last {
     FuelOut,
 }
 
-/// What it waits for: nothing; the value of the variable at a place; the end of the call at which it stands; the content
-/// of a file that is opened; a word that a file was closed or all tasks are done. Or it has ended.
+/// What it waits for: nothing; the value of the variable at a place; the end of the call at which
+/// it stands; the content of a file that is opened; a word that a file was closed or all tasks are done. Or it has ended.
 #[derive(Drop)]
 pub(crate) enum Waits {
     Nothing,

@@ -1,13 +1,13 @@
 // What a program has done so far.
-use crate::opened::Opened;
 use crate::waits::{Last, Pause, Waits};
+use gs_pieces::Opened;
 use gs_talk::{Formula, Question, Slot, Trouble, value, values};
 use gs_types::{ACTION_LIMIT, FaultKind, Name, Value};
 use indexmap::IndexSet;
 use std::alloc::Global;
 
-/// The variables and handles by their places, the text, the names of files, and how many tasks were called and actions
-/// asked; and what it waits for.
+/// The variables and handles by their places, the text, the names of files, and how many tasks were
+/// called and actions asked; and what it waits for.
 #[derive(Drop)]
 pub(crate) struct Work {
     pub(crate) vars: Vec<Slot>,
@@ -51,7 +51,8 @@ impl Work {
         (self.actions as usize) < ACTION_LIMIT
     }
 
-    /// A trouble of an evaluation: the fault, or a variable's value is asked for where an action may be.
+    /// A trouble of an evaluation: the fault, or a variable's value is asked for where an action
+    /// may be.
     pub(crate) fn trouble(&mut self, line: u32, e: Trouble) -> Pause
         ensures { Meets line e self.old result self.new }
     {

@@ -28,23 +28,50 @@ stays : (old new : Folder) → new ≡ old → (x : List ℕ) → new x ≡ old 
 stays old new same x = ap (λ (f : Folder). f x) same
 
 -- where a text that is too long is refused
-refused_at : (folder : Folder) (i p name n : List ℕ) (line : ℕ) (k long : TextKind) → n ≡ name → line ≡ 0 → k ≡ long → CheckRefused folder i p name 0 long → CheckRefused folder i p n line k
+refused_at : (folder : Folder) (i p name n : List ℕ) (line : ℕ) (k long : TextKind) → n ≡ name
+    → line ≡ 0 → k ≡ long → CheckRefused folder i p name 0 long → CheckRefused folder i p n line k
 refused_at folder i p name n line k long is_name is_line is_kind r =
-    subst (λ (x : List ℕ). CheckRefused folder i p x line k) (sym is_name) (subst (λ (x : ℕ). CheckRefused folder i p name x k) (sym is_line) (subst (λ (x : TextKind). CheckRefused folder i p name 0 x) (sym is_kind) r))
+    subst (λ (x : List ℕ). CheckRefused folder i p x line k) (sym is_name) (subst (λ (x : ℕ).
+    CheckRefused folder i p name x k) (sym is_line) (subst (λ (x : TextKind).
+    CheckRefused folder i p name 0 x) (sym is_kind) r))
 
 -- the IDL wasn't read
-pub no_idl : (told wrote : Type 0) (old new : DiskState) (o : ℕ) (w : List ℕ) (i p : List ℕ) (stop : Refusal) → ShortEnds old.faults new.faults (Err stop) → (told → ShortTold (old.folder i) i (kind.Idl idl_kind.TooLong) (Err stop)) → (told → new.folder ≡ old.folder) → (told → Passes Same old new)
+pub no_idl : (told wrote : Type 0) (old new : DiskState) (o : ℕ) (w : List ℕ) (i p : List ℕ)
+    (stop : Refusal) → ShortEnds old.faults new.faults (Err stop)
+    → (told → ShortTold (old.folder i) i (kind.Idl idl_kind.TooLong) (Err stop))
+    → (told → new.folder ≡ old.folder) → (told → Passes Same old new)
     → RanCheck told wrote old new o o w w i p (Err (stop_of stop))
-no_idl told wrote old new o w i p (NoText n) ends is same images = record { cause = tt; judged = λ t. inl (is t); same = λ t. stays old.folder new.folder (same t); images = images; written = λ h. refl }
-no_idl told wrote old new o w i p (BadText n line k) ends is same images = record {
+no_idl told wrote old new o w i p (NoText n) ends is same images = record {
   cause = tt;
-  judged = λ t. let h = is t in refused_at old.folder i p i n line k (kind.Idl idl_kind.TooLong) h.0 h.1 h.2 (long_idl h.3);
+  judged = λ t. inl (is t);
   same = λ t. stays old.folder new.folder (same t);
   images = images;
   written = λ h. refl;
 }
-no_idl told wrote old new o w i p Disk ends is same images = record { cause = ends; judged = λ t. tt; same = λ t. stays old.folder new.folder (same t); images = images; written = λ h. refl }
-no_idl told wrote old new o w i p Memory ends is same images = record { cause = tt; judged = λ t. tt; same = λ t. stays old.folder new.folder (same t); images = images; written = λ h. refl }
+no_idl told wrote old new o w i p (BadText n line k) ends is same images = record {
+  cause = tt;
+  judged = λ t. let h = is t in refused_at old.folder i p i n line k
+      (kind.Idl idl_kind.TooLong) h.0 h.1 h.2 (long_idl h.3);
+  same = λ t. stays old.folder new.folder (same t);
+  images = images;
+  written = λ h. refl;
+}
+no_idl told wrote old new o w i p Disk ends is same images = record {
+  cause = ends;
+  judged = λ t.
+      tt;
+  same = λ t. stays old.folder new.folder (same t);
+  images = images;
+  written = λ h. refl;
+}
+no_idl told wrote old new o w i p Memory ends is same images = record {
+  cause = tt;
+  judged = λ t.
+      tt;
+  same = λ t. stays old.folder new.folder (same t);
+  images = images;
+  written = λ h. refl;
+}
 
 more_rises : (old mid new : ℕ) → old ≤ mid → Rises mid new → Rises old new
 more_rises old mid new le r = omega arith
@@ -53,8 +80,13 @@ both_same : (old mid new : Folder) → mid ≡ old → new ≡ mid → (x : List
 both_same old mid new a b x = ap (λ (f : Folder). f x) (b ∙ a)
 
 -- the program wasn't read
-pub no_program : (told wrote : Type 0) (old mid new : DiskState) (o : ℕ) (w : List ℕ) (i p : List ℕ) (stop : Refusal) → old.faults ≤ mid.faults → ShortEnds mid.faults new.faults (Err stop) → (told → IsWithin (old.folder i)) → (told → ShortTold (mid.folder p) p (kind.Program parse_kind.TooLong) (Err stop))
-    → (told → mid.folder ≡ old.folder) → (told → new.folder ≡ mid.folder) → (told → Passes Same old new) → RanCheck told wrote old new o o w w i p (Err (stop_of stop))
+pub no_program : (told wrote : Type 0) (old mid new : DiskState) (o : ℕ) (w : List ℕ) (i p : List ℕ)
+    (stop : Refusal) → old.faults ≤ mid.faults → ShortEnds mid.faults new.faults (Err stop)
+    → (told → IsWithin (old.folder i))
+    → (told → ShortTold (mid.folder p) p (kind.Program parse_kind.TooLong) (Err stop))
+    → (told → mid.folder ≡ old.folder) → (told → new.folder ≡ mid.folder)
+    → (told → Passes Same old new) → RanCheck told wrote old new o o w w i p
+    (Err (stop_of stop))
 no_program told wrote old mid new o w i p (NoText n) le ends within is same then images = record {
   cause = tt;
   judged = λ t. let h = is t in inr (h.0, within t, ap (λ (f : Folder). f p) (sym (same t)) ∙ h.1);
@@ -62,34 +94,96 @@ no_program told wrote old mid new o w i p (NoText n) le ends within is same then
   images = images;
   written = λ h. refl;
 }
-no_program told wrote old mid new o w i p (BadText n line k) le ends within is same then images = record {
+no_program told wrote old mid new o w i p (BadText n line k) le ends within is same then images =
+    record {
+      cause = tt;
+      judged = λ t. let h = is t in refused_at old.folder i p p n line k
+          (kind.Program parse_kind.TooLong) h.0 h.1 h.2 (long_program (within t) (subst (λ (f : Folder).
+          IsBeyond (f p)) (same t) h.3));
+      same = λ t. both_same old.folder mid.folder new.folder (same t) (then t);
+      images = images;
+      written = λ h. refl;
+    }
+no_program told wrote old mid new o w i p Disk le ends within is same then images =
+    record {
+      cause = more_rises old.faults mid.faults new.faults le ends;
+      judged = λ t. tt;
+      same = λ t. both_same old.folder mid.folder new.folder (same t) (then t);
+      images = images;
+      written = λ h. refl;
+    }
+no_program told wrote old mid new o w i p Memory le ends within is same then images =
+    record {
+      cause = tt;
+      judged = λ t. tt;
+      same = λ t. both_same old.folder mid.folder new.folder
+          (same t) (then t);
+      images = images;
+      written = λ h. refl;
+    }
+
+-- a text went wrong
+pub went_wrong : (told wrote : Type 0) (old new : DiskState) (o : ℕ) (w : List ℕ) (i p : List ℕ)
+    (stop : Refusal) → JudgedOnly {T = Rattle.gs_check.specs.declared.checked.Checked.Checked}
+    (Err stop) → (told → IsWithin (old.folder i)) → (told → IsWithin (old.folder p))
+    → (told → BothOf (old.folder i) (old.folder p) i p (Err stop)) → (told → (x : List ℕ)
+    → new.folder x ≡ old.folder x) → (told → Passes Same old new)
+    → RanCheck told wrote old new o o w w i p (Err (stop_of stop))
+went_wrong told wrote old new o w i p (NoText n) ends a b is same images = absurd ends
+went_wrong told wrote old new o w i p (BadText n line k) ends a b is same images =
+    record {
+      cause = tt;
+      judged = λ t. wrong n line k (a t) (b t) (is t);
+      same = same;
+      images = images;
+      written = λ h. refl;
+    }
+went_wrong told wrote old new o w i p Disk ends a b is same images = absurd ends
+went_wrong told wrote old new o w i p Memory ends a b is same images = record {
   cause = tt;
-  judged = λ t. let h = is t in refused_at old.folder i p p n line k (kind.Program parse_kind.TooLong) h.0 h.1 h.2 (long_program (within t) (subst (λ (f : Folder). IsBeyond (f p)) (same t) h.3));
-  same = λ t. both_same old.folder mid.folder new.folder (same t) (then t);
+  judged = λ t. tt;
+  same = same;
   images = images;
   written = λ h. refl;
 }
-no_program told wrote old mid new o w i p Disk le ends within is same then images = record { cause = more_rises old.faults mid.faults new.faults le ends; judged = λ t. tt; same = λ t. both_same old.folder mid.folder new.folder (same t) (then t); images = images; written = λ h. refl }
-no_program told wrote old mid new o w i p Memory le ends within is same then images = record { cause = tt; judged = λ t. tt; same = λ t. both_same old.folder mid.folder new.folder (same t) (then t); images = images; written = λ h. refl }
-
--- a text went wrong
-pub went_wrong : (told wrote : Type 0) (old new : DiskState) (o : ℕ) (w : List ℕ) (i p : List ℕ) (stop : Refusal) → JudgedOnly {T = Rattle.gs_check.specs.declared.checked.Checked.Checked} (Err stop) → (told → IsWithin (old.folder i)) → (told → IsWithin (old.folder p))
-    → (told → BothOf (old.folder i) (old.folder p) i p (Err stop)) → (told → (x : List ℕ) → new.folder x ≡ old.folder x) → (told → Passes Same old new) → RanCheck told wrote old new o o w w i p (Err (stop_of stop))
-went_wrong told wrote old new o w i p (NoText n) ends a b is same images = absurd ends
-went_wrong told wrote old new o w i p (BadText n line k) ends a b is same images = record { cause = tt; judged = λ t. wrong n line k (a t) (b t) (is t); same = same; images = images; written = λ h. refl }
-went_wrong told wrote old new o w i p Disk ends a b is same images = absurd ends
-went_wrong told wrote old new o w i p Memory ends a b is same images = record { cause = tt; judged = λ t. tt; same = same; images = images; written = λ h. refl }
 
 pub none_is : {A : Type 0} (o : Option A) → is_some o ≡ false → o ≡ None
 none_is None e = refl
 none_is (Some x) e = absurd cc
 
 -- both were printed, or the output failed
-pub shown : (told wrote : Type 0) (old new : DiskState) (o1 o2 : ℕ) (w1 w2 : List ℕ) (i p : List ℕ) (one : Interface) (tree : Program) (answer : Result Unit Unshown) → ShowEnds o1 o2 answer → fault_of one.ops tree ≡ None
-    → (told → HasBoth (old.folder i) (old.folder p) one tree) → (wrote → ShowWrote (printed_both one tree) w1 w2 answer) → (told → (x : List ℕ) → new.folder x ≡ old.folder x) → (told → Passes Same old new) → RanCheck told wrote old new o1 o2 w1 w2 i p (shown_as answer)
-shown told wrote old new o1 o2 w1 w2 i p one tree (Ok done) ends passes has wrote_it same images = record { cause = tt; judged = λ t. (one, tree, has t); same = same; images = images; written = λ h. (one, tree, passes, has, wrote_it h) }
-shown told wrote old new o1 o2 w1 w2 i p one tree (Err unshown.Sink) ends passes has wrote_it same images = record { cause = ends; judged = λ t. (one, tree, has t); same = same; images = images; written = λ h. (one, tree, passes, has, wrote_it h) }
-shown told wrote old new o1 o2 w1 w2 i p one tree (Err unshown.Memory) ends passes has wrote_it same images = record { cause = tt; judged = λ t. tt; same = same; images = images; written = λ h. wrote_it h }
+pub shown : (told wrote : Type 0) (old new : DiskState) (o1 o2 : ℕ) (w1 w2 : List ℕ) (i p : List ℕ)
+    (one : Interface) (tree : Program) (answer : Result Unit Unshown) → ShowEnds o1 o2 answer
+    → fault_of one.ops tree ≡ None
+    → (told → HasBoth (old.folder i) (old.folder p) one tree)
+    → (wrote → ShowWrote (printed_both one tree) w1 w2 answer) → (told → (x : List ℕ)
+    → new.folder x ≡ old.folder x) → (told → Passes Same old new)
+    → RanCheck told wrote old new o1 o2 w1 w2 i p (shown_as answer)
+shown told wrote old new o1 o2 w1 w2 i p one tree (Ok done) ends passes has wrote_it same images =
+    record {
+      cause = tt;
+      judged = λ t. (one, tree, has t);
+      same = same;
+      images = images;
+      written = λ h. (one, tree, passes, has, wrote_it h);
+    }
+shown told wrote old new o1 o2 w1 w2 i p one tree (Err unshown.Sink) ends passes has wrote_it same
+    images = record {
+      cause = ends;
+      judged = λ t. (one, tree, has t);
+      same = same;
+      images = images;
+      written = λ h. (one, tree, passes, has, wrote_it h);
+    }
+shown told wrote old new o1 o2 w1 w2 i p one tree (Err unshown.Memory) ends passes has wrote_it same
+    images = record {
+      cause = tt;
+      judged = λ t. tt;
+      same = same;
+      images = images;
+      written = λ h.
+          wrote_it h;
+    }
 
 -- ---- texts that say an interface and a program that passes, and no rise of a count, give 0 or 12
 
@@ -99,38 +193,61 @@ some_none o b s n = let e : Some b ≡ None = sym s ∙ n in absurd cc
 some_is : (x y : List ℕ) → Some x ≡ Some y → x ≡ y
 some_is x y e = cc
 
-no_beyond : (file : Option (List ℕ)) (text : List ℕ) → file ≡ Some text → length text ≤ 65536 → IsBeyond file → ⊥
+no_beyond : (file : Option (List ℕ)) (text : List ℕ) → file ≡ Some text → length text ≤ 65536
+    → IsBeyond file → ⊥
 no_beyond file text there short b =
     let same : text ≡ b.0 = some_is text b.0 (sym there ∙ b.1) in
     let long : 65536 < length text = subst (λ (l : List ℕ). 65536 < length l) (sym same) b.2 in
     omega arith
 
-holds_present : (folder : Folder) (i p name : List ℕ) → HoldsBoth folder i p → FirstMissing folder i p name → ⊥
-holds_present folder i p name h (inl a) = some_none (folder i) h.2.interface.text h.2.interface.there a.1
-holds_present folder i p name h (inr a) = some_none (folder p) h.2.program.text h.2.program.there a.2
+holds_present : (folder : Folder) (i p name : List ℕ) → HoldsBoth folder i p
+    → FirstMissing folder i p name → ⊥
+holds_present folder i p name h (inl a) =
+    some_none (folder i) h.2.interface.text h.2.interface.there a.1
+holds_present folder i p name h (inr a) = some_none (folder p) h.2.program.text h.2.program.there
+    a.2
 
-holds_right : (folder : Folder) (i p name : List ℕ) (line : ℕ) (k : TextKind) → HoldsBoth folder i p → CheckRefused folder i p name line k → ⊥
-holds_right folder i p name line k h (long_idl b) = no_beyond (folder i) h.2.interface.text h.2.interface.there h.2.interface.says.short b
-holds_right folder i p name line k h (long_program a b) = no_beyond (folder p) h.2.program.text h.2.program.there h.2.program.says.short b
-holds_right folder i p name line k h (wrong name1 line1 k1 a b is) = not_wrong (folder i) (folder p) i p name line k h.0 h.1 h.2 is
+holds_right : (folder : Folder) (i p name : List ℕ) (line : ℕ) (k : TextKind) → HoldsBoth folder i p
+    → CheckRefused folder i p name line k → ⊥
+holds_right folder i p name line k h (long_idl b) =
+    no_beyond (folder i) h.2.interface.text h.2.interface.there h.2.interface.says.short b
+holds_right folder i p name line k h (long_program a b) =
+    no_beyond (folder p) h.2.program.text h.2.program.there h.2.program.says.short b
+holds_right folder i p name line k h (wrong name1 line1 k1 a b is) =
+    not_wrong (folder i) (folder p) i p name line k h.0 h.1 h.2 is
 
-checks_through : (told wrote : Type 0) (old new : DiskState) (o1 o2 : ℕ) (w1 w2 : List ℕ) (i p : List ℕ) (s : Stop) → RanCheck told wrote old new o1 o2 w1 w2 i p (Err s) → told → HoldsBoth old.folder i p → (Rises old.faults new.faults → ⊥) → (Rises o1 o2 → ⊥)
+checks_through : (told wrote : Type 0) (old new : DiskState) (o1 o2 : ℕ) (w1 w2 : List ℕ)
+    (i p : List ℕ) (s : Stop) → RanCheck told wrote old new o1 o2 w1 w2 i p (Err s) → told
+    → HoldsBoth old.folder i p → (Rises old.faults new.faults → ⊥) → (Rises o1 o2 → ⊥)
     → (status_of (Err s) ≡ 0) ⊎ (status_of (Err s) ≡ 12)
-checks_through told wrote old new o1 o2 w1 w2 i p (stop.Usage word) ran t h disk out = absurd ran.cause
-checks_through told wrote old new o1 o2 w1 w2 i p (stop.NoText n) ran t h disk out = absurd (holds_present old.folder i p n h (ran.judged t))
-checks_through told wrote old new o1 o2 w1 w2 i p (stop.BadText n line k) ran t h disk out = absurd (holds_right old.folder i p n line k h (ran.judged t))
-checks_through told wrote old new o1 o2 w1 w2 i p (stop.Fault line k) ran t h disk out = absurd ran.cause
-checks_through told wrote old new o1 o2 w1 w2 i p (stop.FuelOut fuel) ran t h disk out = absurd ran.cause
+checks_through told wrote old new o1 o2 w1 w2 i p (stop.Usage word) ran t h disk out =
+    absurd ran.cause
+checks_through told wrote old new o1 o2 w1 w2 i p (stop.NoText n) ran t h disk out =
+    absurd (holds_present old.folder i p n h (ran.judged t))
+checks_through told wrote old new o1 o2 w1 w2 i p (stop.BadText n line k) ran t h disk out =
+    absurd (holds_right old.folder i p n line k h (ran.judged t))
+checks_through told wrote old new o1 o2 w1 w2 i p (stop.Fault line k) ran t h disk out =
+    absurd ran.cause
+checks_through told wrote old new o1 o2 w1 w2 i p (stop.FuelOut fuel) ran t h disk out =
+    absurd ran.cause
 checks_through told wrote old new o1 o2 w1 w2 i p (stop.Lost n) ran t h disk out = absurd ran.cause
-checks_through told wrote old new o1 o2 w1 w2 i p stop.Disk ran t h disk out = absurd (disk ran.cause)
-checks_through told wrote old new o1 o2 w1 w2 i p stop.Sink ran t h disk out = absurd (out ran.cause)
+checks_through told wrote old new o1 o2 w1 w2 i p stop.Disk ran t h disk out =
+    absurd (disk ran.cause)
+checks_through told wrote old new o1 o2 w1 w2 i p stop.Sink ran t h disk out =
+    absurd (out ran.cause)
 checks_through told wrote old new o1 o2 w1 w2 i p stop.Memory ran t h disk out = inr refl
 
 -- the same under another spelling of the answer
-pub check_as : (told wrote : Type 0) (old new : DiskState) (o1 o2 : ℕ) (w1 w2 i p : List ℕ) (a b : Result Unit Stop) → b ≡ a → RanCheck told wrote old new o1 o2 w1 w2 i p a → RanCheck told wrote old new o1 o2 w1 w2 i p b
-check_as told wrote old new o1 o2 w1 w2 i p a b e r = subst (λ (x : Result Unit Stop). RanCheck told wrote old new o1 o2 w1 w2 i p x) (sym e) r
+pub check_as : (told wrote : Type 0) (old new : DiskState) (o1 o2 : ℕ) (w1 w2 i p : List ℕ)
+    (a b : Result Unit Stop) → b ≡ a → RanCheck told wrote old new o1 o2 w1 w2 i p a
+    → RanCheck told wrote old new o1 o2 w1 w2 i p b
+check_as told wrote old new o1 o2 w1 w2 i p a b e r = subst (λ (x : Result Unit Stop).
+    RanCheck told wrote old new o1 o2 w1 w2 i p x) (sym e) r
 
-pub checks_so : (told wrote : Type 0) (old new : DiskState) (o1 o2 : ℕ) (w1 w2 : List ℕ) (i p : List ℕ) (answer : Result Unit Stop) → RanCheck told wrote old new o1 o2 w1 w2 i p answer → told → HoldsBoth old.folder i p → (Rises old.faults new.faults → ⊥) → (Rises o1 o2 → ⊥)
+pub checks_so : (told wrote : Type 0) (old new : DiskState) (o1 o2 : ℕ) (w1 w2 : List ℕ)
+    (i p : List ℕ) (answer : Result Unit Stop) → RanCheck told wrote old new o1 o2 w1 w2 i p answer
+    → told → HoldsBoth old.folder i p → (Rises old.faults new.faults → ⊥) → (Rises o1 o2 → ⊥)
     → (status_of answer ≡ 0) ⊎ (status_of answer ≡ 12)
 checks_so told wrote old new o1 o2 w1 w2 i p (Ok done) ran t h disk out = inl refl
-checks_so told wrote old new o1 o2 w1 w2 i p (Err s) ran t h disk out = checks_through told wrote old new o1 o2 w1 w2 i p s ran t h disk out
+checks_so told wrote old new o1 o2 w1 w2 i p (Err s) ran t h disk out =
+    checks_through told wrote old new o1 o2 w1 w2 i p s ran t h disk out

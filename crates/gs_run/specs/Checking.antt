@@ -1,5 +1,5 @@
 -- What a call of `gs check` did.
-use Rattle.std.specs.Prelude.{◌≡◌, ◌⊎◌, ℕ, ◌≤◌, List, ◌++◌, length, take, None, Result, Ok, Err}
+use Rattle.std.specs.Prelude.{◌≡◌, ◌⊎◌, ℕ, ◌≤◌, List, ◌++◌, length, take, None, is_some, false, Result, Ok, Err}
 use Rattle.gs_types.specs.Counts.{Rises}
 use Rattle.gs_disk.specs.Folder.{Folder, DiskState, Same}
 use Rattle.gs_disk.specs.Moments.{Passes}
@@ -10,6 +10,8 @@ use Rattle.gs_tree.specs.Printed as tree
 use Rattle.gs_tree.specs.Program.{Program}
 use Rattle.gs_parse.specs.declared.fault.ParseKind.TheVariants as parse_kind
 use Rattle.gs_check.specs.Faults.{fault_of}
+use Rattle.gs_check.specs.Passing.{program_in, interface_in}
+use Rattle.gs_check.specs.declared.checked.Checked.{Checked}
 use Rattle.gs_run.specs.Texts.{IsWithin, IsBeyond, HasBoth, IsWrong}
 use Rattle.gs_run.specs.declared.kinds.TextKind.{TextKind}
 use Rattle.gs_run.specs.declared.kinds.TextKind.TheVariants as kind
@@ -20,20 +22,36 @@ use Rattle.gs_run.specs.declared.stop.Stop.TheVariants.{Usage, NoText, BadText, 
 abbrev pub printed_both : Interface → Program → List ℕ
 printed_both i p = idl.printed i ++ tree.printed p
 
--- the first of the two files that is absent when its turn comes: the program is looked for where the IDL is within the limit
-abbrev pub FirstMissing : Folder → (idl program name : List ℕ) → Type 0
-FirstMissing folder idl program name = ((name ≡ idl) × (folder idl ≡ None)) ⊎ ((name ≡ program) × IsWithin (folder idl) × (folder program ≡ None))
+-- those of a checked program
+abbrev pub both_printed : Checked → List ℕ
+both_printed c = printed_both (interface_in c) (program_in c)
 
--- The first text that is refused, with line and kind: one that is too long as it is read, the IDL first; else the first fault of the two.
-pub data CheckRefused (folder : Folder) (idl program : List ℕ) : (name : List ℕ) → (line : ℕ) → TextKind → Type 0 where
-  long_idl : IsBeyond (folder idl) → CheckRefused folder idl program idl 0 (kind.Idl idl_kind.TooLong)
-  long_program : IsWithin (folder idl) → IsBeyond (folder program) → CheckRefused folder idl program program 0 (kind.Program parse_kind.TooLong)
-  wrong : (name : List ℕ) (line : ℕ) (k : TextKind) → IsWithin (folder idl) → IsWithin (folder program) → IsWrong (folder idl) (folder program) idl program name line k →
+-- it has passed its checks
+abbrev pub HasPassed : Checked → Type 0
+HasPassed c = is_some (fault_of (interface_in c).ops (program_in c)) ≡ false
+
+-- the first of the two files that is absent when its turn comes: the program is looked for where
+-- the IDL is within the limit
+abbrev pub FirstMissing : Folder → (idl program name : List ℕ) → Type 0
+FirstMissing folder idl program name = ((name ≡ idl) × (folder idl ≡ None))
+    ⊎ ((name ≡ program) × IsWithin (folder idl) × (folder program ≡ None))
+
+-- The first text that is refused, with line and kind: one that is too long as it is read, the IDL
+-- first; else the first fault of the two.
+pub data CheckRefused (folder : Folder) (idl program : List ℕ) : (name : List ℕ) → (line : ℕ)
+    → TextKind → Type 0 where
+  long_idl : IsBeyond (folder idl) → CheckRefused folder idl program idl 0
+      (kind.Idl idl_kind.TooLong)
+  long_program : IsWithin (folder idl) → IsBeyond (folder program)
+      → CheckRefused folder idl program program 0 (kind.Program parse_kind.TooLong)
+  wrong : (name : List ℕ) (line : ℕ) (k : TextKind) → IsWithin (folder idl)
+      → IsWithin (folder program) → IsWrong (folder idl) (folder program) idl program name line k →
       CheckRefused folder idl program name line k
 
 -- the folder holds an interface and a program that passes its checks
 abbrev pub HoldsBoth : Folder → (idl program : List ℕ) → Type 0
-HoldsBoth folder idl program = (i : Interface) × (p : Program) × HasBoth (folder idl) (folder program) i p
+HoldsBoth folder idl program = (i : Interface) × (p : Program)
+    × HasBoth (folder idl) (folder program) i p
 
 -- what each answer says of the counts of the disk and of the output
 abbrev pub CheckCause : (disk_old disk_new out_old out_new : ℕ) → Result Unit Stop → Type 0
@@ -53,7 +71,8 @@ abbrev pub CheckJudged : Folder → (idl program : List ℕ) → Result Unit Sto
 CheckJudged folder idl program (Ok done) = HoldsBoth folder idl program
 CheckJudged folder idl program (Err (Usage word)) = ⊥
 CheckJudged folder idl program (Err (NoText name)) = FirstMissing folder idl program name
-CheckJudged folder idl program (Err (BadText name line k)) = CheckRefused folder idl program name line k
+CheckJudged folder idl program (Err (BadText name line k)) =
+    CheckRefused folder idl program name line k
 CheckJudged folder idl program (Err (Fault line k)) = ⊥
 CheckJudged folder idl program (Err (FuelOut fuel)) = ⊥
 CheckJudged folder idl program (Err (Lost n)) = ⊥
@@ -61,10 +80,13 @@ CheckJudged folder idl program (Err Disk) = Unit {0}
 CheckJudged folder idl program (Err Sink) = HoldsBoth folder idl program
 CheckJudged folder idl program (Err Memory) = Unit {0}
 
--- what each answer wrote: both printed texts; where the output failed, a first part of them; else nothing
-abbrev pub CheckWrote : (told : Type 0) → Folder → (idl program : List ℕ) → (old new : List ℕ) → Result Unit Stop → Type 0
+-- what each answer wrote: both printed texts; where the output failed, a first part of them; else
+-- nothing
+abbrev pub CheckWrote : (told : Type 0) → Folder → (idl program : List ℕ) → (old new : List ℕ)
+    → Result Unit Stop → Type 0
 CheckWrote told folder idl program old new (Ok done) =
-    (i : Interface) × (p : Program) × (fault_of i.ops p ≡ None) × (told → HasBoth (folder idl) (folder program) i p) × (new ≡ old ++ printed_both i p)
+    (i : Interface) × (p : Program) × (fault_of i.ops p ≡ None)
+    × (told → HasBoth (folder idl) (folder program) i p) × (new ≡ old ++ printed_both i p)
 CheckWrote told folder idl program old new (Err (Usage word)) = new ≡ old
 CheckWrote told folder idl program old new (Err (NoText name)) = new ≡ old
 CheckWrote told folder idl program old new (Err (BadText name line k)) = new ≡ old
@@ -73,12 +95,16 @@ CheckWrote told folder idl program old new (Err (FuelOut fuel)) = new ≡ old
 CheckWrote told folder idl program old new (Err (Lost n)) = new ≡ old
 CheckWrote told folder idl program old new (Err Disk) = new ≡ old
 CheckWrote told folder idl program old new (Err Sink) =
-    (i : Interface) × (p : Program) × (fault_of i.ops p ≡ None) × (told → HasBoth (folder idl) (folder program) i p) × ((k : ℕ) × (k ≤ length (printed_both i p)) × (new ≡ old ++ take k (printed_both i p)))
+    (i : Interface) × (p : Program) × (fault_of i.ops p ≡ None)
+    × (told → HasBoth (folder idl) (folder program) i p)
+    × ((k : ℕ) × (k ≤ length (printed_both i p)) × (new ≡ old ++ take k (printed_both i p)))
 CheckWrote told folder idl program old new (Err Memory) = new ≡ old
 
--- what a call did with the names of an IDL and a program, on a disk that tells its folder where `told` holds, and an output that tells what
--- was written where `wrote` holds
-pub record RanCheck (told wrote : Type 0) (old new : DiskState) (out_old out_new : ℕ) (written_old written_new : List ℕ) (idl program : List ℕ) (answer : Result Unit Stop) : Type 0 where
+-- what a call did with the names of an IDL and a program, on a disk that tells its folder where
+-- `told` holds, and an output that tells what was written where `wrote` holds
+pub record RanCheck (told wrote : Type 0) (old new : DiskState) (out_old out_new : ℕ)
+    (written_old written_new : List ℕ) (idl program : List ℕ) (answer : Result Unit Stop)
+    : Type 0 where
   pub cause : CheckCause old.faults new.faults out_old out_new answer
   pub judged : told → CheckJudged old.folder idl program answer
   pub same : told → (x : List ℕ) → new.folder x ≡ old.folder x

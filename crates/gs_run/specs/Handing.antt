@@ -2,7 +2,8 @@
 use Rattle.std.specs.Prelude.{◌≡◌, ℕ, ◌≤◌, List, ◌++◌, length, take, Result, Ok, Err}
 use Rattle.gs_types.specs.Counts.{Rises}
 use Rattle.gs_types.specs.declared.limits.TheConstants.{FUEL_DEFAULT}
-use Rattle.gs_disk.specs.Folder.{Folder}
+use Rattle.gs_disk.specs.Folder.{Folder, DiskState}
+use Rattle.gs_disk.specs.Moments.{LeavesOnly}
 use Rattle.gs_disk.specs.declared.disk.DiskErr.{DiskErr}
 use Rattle.gs_disk.specs.declared.disk.DiskErr.TheVariants as disk_err
 use Rattle.gs_serial.specs.Files.{over}
@@ -24,11 +25,16 @@ HandEnds d e o p (Err unhanded.Disk) = Rises d e
 HandEnds d e o p (Err unhanded.Sink) = Rises o p
 HandEnds d e o p (Err unhanded.Memory) = Unit {0}
 
--- all changed files stand, unless writing them failed
-abbrev pub HandPut : (changed old new : Folder) → Result Unit Unhanded → Type 0
-HandPut changed old new (Ok done) = (x : List ℕ) → new x ≡ over changed old x
+-- the changed files stand, and the folder is its only image
+pub record Stand (changed : Folder) (old new : DiskState) : Type 0 where
+  pub files : (x : List ℕ) → new.folder x ≡ over changed old.folder x
+  pub only : LeavesOnly new.folder new
+
+-- they do, unless writing them failed
+abbrev pub HandPut : (changed : Folder) → (old new : DiskState) → Result Unit Unhanded → Type 0
+HandPut changed old new (Ok done) = Stand changed old new
 HandPut changed old new (Err unhanded.Disk) = Unit {0}
-HandPut changed old new (Err unhanded.Sink) = (x : List ℕ) → new x ≡ over changed old x
+HandPut changed old new (Err unhanded.Sink) = Stand changed old new
 HandPut changed old new (Err unhanded.Memory) = Unit {0}
 
 -- all of the text was written, or a first part, or nothing

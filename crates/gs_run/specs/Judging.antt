@@ -55,7 +55,8 @@ InterfaceOf file name (Err Memory) = Unit {0}
 
 abbrev pub ProgramFault : Option (List ℕ) → ℕ → TextKind → Type 0
 ProgramFault file line (kind.Idl k) = ⊥
-ProgramFault file line (kind.Program k) = (text : List ℕ) × (file ≡ Some text) × IsTextFault text line k
+ProgramFault file line (kind.Program k) = (text : List ℕ) × (file ≡ Some text)
+    × IsTextFault text line k
 ProgramFault file line (kind.Check k) = ⊥
 ProgramFault file line kind.NotYet = ⊥
 
@@ -68,10 +69,13 @@ TreeOf file name (Err Disk) = ⊥
 TreeOf file name (Err Memory) = Unit {0}
 
 -- the interface and the checked program that two files hold, or the first fault
-abbrev pub BothOf : (idl_file program_file : Option (List ℕ)) → (idl program : List ℕ) → Result Checked Refusal → Type 0
-BothOf idl_file program_file idl program (Ok c) = HasBoth idl_file program_file (interface_in c) (program_in c)
+abbrev pub BothOf : (idl_file program_file : Option (List ℕ)) → (idl program : List ℕ)
+    → Result Checked Refusal → Type 0
+BothOf idl_file program_file idl program (Ok c) = HasBoth idl_file program_file (interface_in c)
+    (program_in c)
 BothOf idl_file program_file idl program (Err (NoText n)) = ⊥
-BothOf idl_file program_file idl program (Err (BadText n line k)) = IsWrong idl_file program_file idl program n line k
+BothOf idl_file program_file idl program (Err (BadText n line k)) =
+    IsWrong idl_file program_file idl program n line k
 BothOf idl_file program_file idl program (Err Disk) = ⊥
 BothOf idl_file program_file idl program (Err Memory) = Unit {0}
 
@@ -104,16 +108,22 @@ TextsEnd old new (Err Disk) = Rises old new
 TextsEnd old new (Err Memory) = Unit {0}
 
 abbrev pub TextsTold : Folder → List ℕ → List ℕ → List ℕ → Result Texts Refusal → Type 0
-TextsTold folder idl program workers (Ok t) = Present folder idl program workers × IsTextOf (folder idl) t.idl × IsTextOf (folder program) t.program × IsTextOf (folder workers) t.workers
-TextsTold folder idl program workers (Err (NoText name)) = FirstAbsent folder idl program workers name
+TextsTold folder idl program workers (Ok t) = Present folder idl program workers
+    × IsTextOf (folder idl) t.idl × IsTextOf (folder program) t.program
+    × IsTextOf (folder workers) t.workers
+TextsTold folder idl program workers (Err (NoText name)) =
+    FirstAbsent folder idl program workers name
 TextsTold folder idl program workers (Err (BadText name line kind)) = ⊥
 TextsTold folder idl program workers (Err Disk) = Unit {0}
 TextsTold folder idl program workers (Err Memory) = Unit {0}
 
 abbrev pub JudgeTold : Folder → List ℕ → List ℕ → List ℕ → Result Plan Refusal → Type 0
 JudgeTold folder idl program workers (Ok plan) =
-    Served folder idl program workers (interface_in plan.checked) (program_in plan.checked) plan.worker
-JudgeTold folder idl program workers (Err (NoText name)) = FirstAbsent folder idl program workers name
-JudgeTold folder idl program workers (Err (BadText name line kind)) = Present folder idl program workers × Refused folder idl program workers name line kind
+    Served folder idl program workers (interface_in plan.checked) (program_in plan.checked)
+    plan.worker
+JudgeTold folder idl program workers (Err (NoText name)) =
+    FirstAbsent folder idl program workers name
+JudgeTold folder idl program workers (Err (BadText name line kind)) =
+    Present folder idl program workers × Refused folder idl program workers name line kind
 JudgeTold folder idl program workers (Err Disk) = Unit {0}
 JudgeTold folder idl program workers (Err Memory) = Unit {0}

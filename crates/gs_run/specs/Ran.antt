@@ -6,7 +6,8 @@ use Rattle.gs_types.specs.Counts.{Rises}
 use Rattle.gs_types.specs.History.{History}
 use Rattle.gs_types.specs.Job.{Meaning}
 use Rattle.gs_types.specs.declared.limits.TheConstants.{FUEL_DEFAULT}
-use Rattle.gs_disk.specs.Folder.{Folder, DiskState}
+use Rattle.gs_disk.specs.Folder.{Folder, DiskState, Same}
+use Rattle.gs_disk.specs.Moments.{Passes, LeavesOnly}
 use Rattle.gs_talk.specs.declared.question.Question.{Question}
 use Rattle.gs_talk.specs.declared.question.Question.TheVariants as q
 use Rattle.gs_talk.specs.Talk.{State, Stop}
@@ -85,31 +86,52 @@ Cause d e k l o p (Err stop.Disk) = Rises d e
 Cause d e k l o p (Err stop.Sink) = Rises o p
 Cause d e k l o p (Err stop.Memory) = Unit {0}
 
--- ---- the folder as the call ended
+-- ---- the folder as the call ended, and what a crash may leave of it
 
-abbrev pub Unchanged : (old new : Folder) → Type 0
-Unchanged old new = (x : List ℕ) → new x ≡ old x
+-- no run that the folder's texts say writes the file
+abbrev pub IsUnwritten : Meaning → Folder → (idl program workers : List ℕ) → List ℕ → Type 0
+IsUnwritten law folder idl program workers x = (i : Interface) (p : Program) (worker : Worker)
+    → Served folder idl program workers i p worker
+    → IsUntouched (run_in idl program i p law folder) x
 
--- each file stays that the run doesn't write which the texts say
-abbrev pub OthersStay : Meaning → (idl program workers : List ℕ) → (old new : Folder) → Type 0
-OthersStay law idl program workers old new = (x : List ℕ)
-    → ((i : Interface) (p : Program) (worker : Worker)
-    → Served old idl program workers i p worker
-    → IsUntouched (run_in idl program i p law old) x) → new x ≡ old x
+-- each such file is the same
+pub record KeepsUnwritten (law : Meaning) (folder : Folder) (idl program workers : List ℕ)
+    (old new : Folder) : Type 0 where
+  pub each : (x : List ℕ) → IsUnwritten law folder idl program workers x → new x ≡ old x
 
--- what each answer leaves: only where the run has ended anything was written
-abbrev pub Left : Meaning → (idl program workers : List ℕ) → (old new : Folder)
-    → Result Unit stops.Stop → Type 0
-Left law idl program workers old new (Ok done) = OthersStay law idl program workers old new
-Left law idl program workers old new (Err (stop.Usage word)) = ⊥
-Left law idl program workers old new (Err (stop.NoText name)) = Unchanged old new
-Left law idl program workers old new (Err (stop.BadText name line kind)) = Unchanged old new
-Left law idl program workers old new (Err (stop.Fault line kind)) = Unchanged old new
-Left law idl program workers old new (Err (stop.FuelOut fuel)) = Unchanged old new
-Left law idl program workers old new (Err (stop.Lost n)) = Unchanged old new
-Left law idl program workers old new (Err stop.Disk) = OthersStay law idl program workers old new
-Left law idl program workers old new (Err stop.Sink) = OthersStay law idl program workers old new
-Left law idl program workers old new (Err stop.Memory) = OthersStay law idl program workers old new
+-- nothing was written: every file reads as before, and each image, within the call too, is one of
+-- before
+pub record Untouched (old new : DiskState) : Type 0 where
+  pub files : (x : List ℕ) → new.folder x ≡ old.folder x
+  pub images : Passes Same old new
+
+-- All tasks of the run have finished, and it ended. Its files may be written; every other file
+-- reads as before, and in each image, within the call too, is as in one of before.
+pub record Written (law : Meaning) (idl program workers : List ℕ) (tells : History → Type 0)
+    (past : History) (old new : DiskState) : Type 0 where
+  pub ended : IsServed old.folder idl program workers (λ i p worker.
+      RanInto worker.program (run_in idl program i p law old.folder) tells past q.End)
+  pub files : KeepsUnwritten law old.folder idl program workers old.folder new.folder
+  pub images : Passes (KeepsUnwritten law old.folder idl program workers) old new
+
+-- what each answer leaves; at the end the folder is its only image
+abbrev pub Left : Meaning → (idl program workers : List ℕ) → (tells : History → Type 0)
+    → (past : History) → (old new : DiskState) → Result Unit stops.Stop → Type 0
+Left law idl program workers tells past old new (Ok done) =
+    Written law idl program workers tells past old new × LeavesOnly new.folder new
+Left law idl program workers tells past old new (Err (stop.Usage word)) = ⊥
+Left law idl program workers tells past old new (Err (stop.NoText name)) = Untouched old new
+Left law idl program workers tells past old new (Err (stop.BadText name line kind)) =
+    Untouched old new
+Left law idl program workers tells past old new (Err (stop.Fault line kind)) = Untouched old new
+Left law idl program workers tells past old new (Err (stop.FuelOut fuel)) = Untouched old new
+Left law idl program workers tells past old new (Err (stop.Lost n)) = Untouched old new
+Left law idl program workers tells past old new (Err stop.Disk) =
+    Untouched old new ⊎ Written law idl program workers tells past old new
+Left law idl program workers tells past old new (Err stop.Sink) =
+    Written law idl program workers tells past old new × LeavesOnly new.folder new
+Left law idl program workers tells past old new (Err stop.Memory) =
+    Untouched old new ⊎ Written law idl program workers tells past old new
 
 -- ---- the output
 
@@ -172,7 +194,7 @@ pub record Ran (told wrote : Type 0) (old new : DiskState) (law : Meaning)
   pub cause : Cause old.faults new.faults link_old link_new out_old out_new answer
   pub judged : told → Judged old.folder idl program workers answer
   pub left : told → (past : History) → tells_old past
-      → Left law idl program workers old.folder new.folder answer
+      → Left law idl program workers tells_new past old new answer
   pub written : wrote → Wrote written_old written_new answer
   pub happened : told → (past : History) → tells_old past
       → Happened wrote law idl program workers old.folder new.folder tells_new past

@@ -29,10 +29,13 @@ pub record Present (folder : Folder) (idl program workers : List ℕ) : Type 0 w
 -- the first of the three that is absent
 abbrev pub FirstAbsent : Folder → List ℕ → List ℕ → List ℕ → List ℕ → Type 0
 FirstAbsent folder idl program workers name =
-    ((name ≡ idl) × (folder idl ≡ None)) ⊎ (((name ≡ program) × IsSome (folder idl) × (folder program ≡ None)) ⊎ ((name ≡ workers) × IsSome (folder idl) × IsSome (folder program) × (folder workers ≡ None)))
+    ((name ≡ idl) × (folder idl ≡ None))
+    ⊎ (((name ≡ program) × IsSome (folder idl) × (folder program ≡ None))
+    ⊎ ((name ≡ workers) × IsSome (folder idl) × IsSome (folder program)
+    × (folder workers ≡ None)))
 
--- The first of the three that is refused, with line and kind: the IDL or the program goes wrong; the
--- worker list isn't in its form.
+-- The first of the three that is refused, with line and kind: the IDL or the program goes wrong;
+-- the worker list isn't in its form.
 pub data Refused (folder : Folder) (idl program workers : List ℕ)
     : (name : List ℕ) → (line : ℕ) → TextKind → Type 0 where
   wrong : (name : List ℕ) (line : ℕ) (k : TextKind)

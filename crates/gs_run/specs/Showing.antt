@@ -12,7 +12,8 @@ use Rattle.gs_run.specs.declared.stop.Stop.{Stop}
 use Rattle.gs_run.specs.declared.stop.Stop.TheVariants as stop
 use Rattle.gs_run.specs.declared.texts.Text.{Text}
 
--- reading a text within the limit fails where it is absent or longer, by the disk, or for want of memory
+-- reading a text within the limit fails where it is absent or longer, by the disk, or for want of
+-- memory
 abbrev pub ShortEnds : ℕ → ℕ → Result Text Refusal → Type 0
 ShortEnds old new (Ok t) = Unit {0}
 ShortEnds old new (Err (NoText name)) = Unit {0}
@@ -21,10 +22,12 @@ ShortEnds old new (Err Disk) = Rises old new
 ShortEnds old new (Err Memory) = Unit {0}
 
 -- of the file of this name
-abbrev pub ShortTold : Option (List ℕ) → (name : List ℕ) → (too_long : TextKind) → Result Text Refusal → Type 0
+abbrev pub ShortTold : Option (List ℕ) → (name : List ℕ) → (too_long : TextKind)
+    → Result Text Refusal → Type 0
 ShortTold file name too_long (Ok t) = IsTextOf file t × IsWithin file
 ShortTold file name too_long (Err (NoText n)) = (n ≡ name) × (file ≡ None)
-ShortTold file name too_long (Err (BadText n line k)) = (n ≡ name) × (line ≡ 0) × (k ≡ too_long) × IsBeyond file
+ShortTold file name too_long (Err (BadText n line k)) = (n ≡ name) × (line ≡ 0) × (k ≡ too_long)
+    × IsBeyond file
 ShortTold file name too_long (Err Disk) = Unit {0}
 ShortTold file name too_long (Err Memory) = Unit {0}
 

@@ -19,7 +19,8 @@ status_of (Err Memory) = 12
 abbrev pub line_of : Stop → List ℕ
 line_of (Usage word) = codes "gs: usage: word " ++ (decimal word ++ 10 ∷ [])
 line_of (NoText name) = codes "gs: no text: " ++ (name ++ 10 ∷ [])
-line_of (BadText name line kind) = codes "gs: bad text: " ++ (name ++ (codes ":" ++ (decimal line ++ (codes ": " ++ (kind_text kind ++ 10 ∷ [])))))
+line_of (BadText name line kind) = codes "gs: bad text: "
+    ++ (name ++ (codes ":" ++ (decimal line ++ (codes ": " ++ (kind_text kind ++ 10 ∷ [])))))
 line_of (Fault line kind) = codes "gs: program fault: line "
     ++ (decimal line ++ (codes ": " ++ (fault_kind_text kind ++ 10 ∷ [])))
 line_of (FuelOut fuel) = codes "gs: fuel out: " ++ (decimal fuel ++ 10 ∷ [])

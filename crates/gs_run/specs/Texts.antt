@@ -31,15 +31,22 @@ pub record HasProgram (file : Option (List ℕ)) (p : Program) : Type 0 where
   pub says : IsText text p
 
 -- the two files hold an interface and a program that passes the checks against it
-pub record HasBoth (idl_file program_file : Option (List ℕ)) (i : Interface) (p : Program) : Type 0 where
+pub record HasBoth (idl_file program_file : Option (List ℕ)) (i : Interface) (p : Program)
+    : Type 0 where
   pub interface : HasInterface idl_file i
   pub program : HasProgram program_file p
   pub passes : fault_of i.ops p ≡ None
 
--- The first fault of the two texts, by the name of its file, its line and its kind: of the interface, else of the program, else of the checks.
-pub data IsWrong (idl_file program_file : Option (List ℕ)) (idl program : List ℕ) : (name : List ℕ) → (line : ℕ) → TextKind → Type 0 where
-  interface : (text : List ℕ) (line : ℕ) (k : IdlKind) → idl_file ≡ Some text → IsFault text line k → IsWrong idl_file program_file idl program idl line (kind.Idl k)
-  program : (i : Interface) (text : List ℕ) (line : ℕ) (k : ParseKind) → HasInterface idl_file i → program_file ≡ Some text → IsTextFault text line k →
+-- The first fault of the two texts, by the name of its file, its line and its kind: of the
+-- interface, else of the program, else of the checks.
+pub data IsWrong (idl_file program_file : Option (List ℕ)) (idl program : List ℕ) : (name : List ℕ)
+    → (line : ℕ) → TextKind → Type 0 where
+  interface : (text : List ℕ) (line : ℕ) (k : IdlKind) → idl_file ≡ Some text → IsFault text line k
+      → IsWrong idl_file program_file idl program idl line (kind.Idl k)
+  program : (i : Interface) (text : List ℕ) (line : ℕ) (k : ParseKind) → HasInterface idl_file i
+      → program_file ≡ Some text → IsTextFault text line k →
       IsWrong idl_file program_file idl program program line (kind.Program k)
-  checks : (i : Interface) (p : Program) (line : ℕ) (k : CheckKind) → HasInterface idl_file i → HasProgram program_file p →
-      fault_of i.ops p ≡ Some (record { line = line; kind = k }) → IsWrong idl_file program_file idl program program line (kind.Check k)
+  checks : (i : Interface) (p : Program) (line : ℕ) (k : CheckKind) → HasInterface idl_file i
+      → HasProgram program_file p
+      → fault_of i.ops p ≡ Some (record { line = line; kind = k })
+      → IsWrong idl_file program_file idl program program line (kind.Check k)

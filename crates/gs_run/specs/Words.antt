@@ -26,7 +26,8 @@ IsCommand words =
 abbrev pub IsBeginning : List (List ℕ) → Type 0
 IsBeginning words = (more : List (List ℕ)) × IsCommand (words ++ more)
 
--- the place, from 0, of the first word with which no command goes on, or the number of words where they are too few
+-- the place, from 0, of the first word with which no command goes on, or the number of words where
+-- they are too few
 pub record IsUsage (words : List (List ℕ)) (at : ℕ) : Type 0 where
   pub within : at ≤ length words
   pub before : IsBeginning (take at words)

@@ -17,7 +17,8 @@ use gs_parse::ParseKind;
 use gs_types::{Name, Sink};
 use std::alloc::Global;
 
-/// Reads a text within the limit. `NoText` where its file is absent, `BadText` with this kind where it is longer.
+/// Reads a text within the limit. `NoText` where its file is absent, `BadText` with this kind where
+/// it is longer.
 fn read_short<D: Disk>(
     alloc: Global,
     disk: &mut D,
@@ -28,7 +29,8 @@ fn read_short<D: Disk>(
     ensures images { D.tells → Passes Same (D.state disk.old) (D.state disk.new) }
     ensures rise { (D.state disk.old).faults ≤ (D.state disk.new).faults }
     ensures ends { ShortEnds (D.state disk.old).faults (D.state disk.new).faults result }
-    ensures told { D.tells → ShortTold ((D.state disk.old).folder name.now) name.now too_long result }
+    ensures told { D.tells
+        → ShortTold ((D.state disk.old).folder name.now) name.now too_long result }
 {
     match read_text(alloc, disk, name) {
         Ok(Some(Text::Read { bytes })) => Ok(Text::Read { bytes }),
@@ -38,15 +40,17 @@ fn read_short<D: Disk>(
     }
 }
 
-/// Reads an IDL and a program, each of which is refused as it is read where it is absent or too long, checks them, and
-/// writes both in their printed form. No file is touched.
+/// Reads an IDL and a program, each of which is refused as it is read where it is absent or too
+/// long, checks them, and writes both in their printed form. No file is touched.
 pub(crate) fn check_texts<D: Disk, O: Sink>(
     alloc: Global,
     disk: &mut D,
     words: &CheckWords,
     out: &mut O,
 ) -> Result<(), Stop>
-    ensures { RanCheck D.tells O.tells (D.state disk.old) (D.state disk.new) (O.faults out.old) (O.faults out.new) (O.written out.old) (O.written out.new) words.now.idl words.now.program result }
+    ensures { RanCheck D.tells O.tells (D.state disk.old) (D.state disk.new)
+        (O.faults out.old) (O.faults out.new) (O.written out.old) (O.written out.new)
+        words.now.idl words.now.program result }
 {
     let too_long = TextKind::Idl {
         kind: IdlKind::TooLong,

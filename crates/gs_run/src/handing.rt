@@ -1,6 +1,7 @@
 // Hands a run's results over: the changed files, and then the text.
-ghost use Rattle.std.specs.Prelude.{◌≡◌, ℕ, List, None};
-ghost use Rattle.gs_serial.specs.Files.{changed_files, Covers};
+ghost use Rattle.std.specs.Prelude.{◌≡◌};
+ghost use Rattle.gs_disk.specs.Moments.{Passes};
+ghost use Rattle.gs_serial.specs.Files.{changed_files, Covers, KeepsUnchanged};
 ghost use Rattle.gs_run.specs.Handing.{unwritten, HandEnds, HandPut, HandWrote, handed_as, halted_as};
 
 use crate::Stop;
@@ -35,10 +36,13 @@ pub(crate) fn hand_over<D: Disk, O: Sink>(
     requires { Covers changed.now.names (changed_files changed.now) }
     ensures ends { HandEnds (D.state disk.old).faults (D.state disk.new).faults
         (O.faults out.old) (O.faults out.new) result }
-    ensures put { D.tells → HandPut (changed_files changed.now)
-        (D.state disk.old).folder (D.state disk.new).folder result }
-    ensures others { D.tells → (x : List ℕ) → changed_files changed.now x ≡ None
-        → (D.state disk.new).folder x ≡ (D.state disk.old).folder x }
+    ensures put { D.tells
+        → HandPut (changed_files changed.now) (D.state disk.old) (D.state disk.new) result }
+    ensures others { D.tells → KeepsUnchanged (changed_files changed.now)
+        (D.state disk.old).folder (D.state disk.new).folder }
+    ensures images { D.tells
+        → Passes (KeepsUnchanged (changed_files changed.now))
+        (D.state disk.old) (D.state disk.new) }
     ensures wrote { O.tells → HandWrote text.now (O.written out.old) (O.written out.new) result }
 {
     if let Err(e) = write_files(disk, changed) {

@@ -7,7 +7,8 @@ use gs_idl::IdlKind;
 use gs_parse::ParseKind;
 use gs_types::FaultKind;
 
-/// How a text goes wrong: an IDL by its grammar, a program by its grammar or its checks, or a text that says what isn't
+/// How a text goes wrong: an IDL by its grammar, a program by its grammar or its checks, or a text
+/// that says what isn't
 /// carried out yet.
 #[derive(Clone, Copy, PartialEq, Eq, Debug)]
 pub enum TextKind {

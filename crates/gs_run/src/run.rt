@@ -171,7 +171,8 @@ pub fn gs<D: Disk, K: Link, O: Sink, E: Sink>(
         → IsCheck (map string_bytes words.now.items) idl program
         → HoldsBoth (D.state (disk_of site.old)).folder idl program
         → (Rises (D.state (disk_of site.old)).faults (D.state (disk_of site.new)).faults → ⊥)
-        → (Rises (O.faults out.old) (O.faults out.new) → ⊥) → (result ≡ 0) ⊎ (result ≡ 12) }
+        → (Rises (O.faults out.old) (O.faults out.new) → ⊥)
+        → (result ≡ 0) ⊎ (result ≡ 12) }
 {
     let command = read_words(words);
     let answer = serve(alloc, command, site, out);

@@ -1,8 +1,6 @@
 // Shows an interface and a program.
-ghost use Rattle.std.specs.Prelude.{◌≡◌, ◌++◌, IfOk, is_some, false};
-ghost use Rattle.gs_check.specs.Faults.{fault_of};
-ghost use Rattle.gs_check.specs.Passing.{program_in, interface_in};
-ghost use Rattle.gs_run.specs.Checking.{printed_both};
+ghost use Rattle.std.specs.Prelude.{◌≡◌, IfOk};
+ghost use Rattle.gs_run.specs.Checking.{both_printed, HasPassed};
 ghost use Rattle.gs_run.specs.Showing.{ShowEnds, ShowWrote, shown_as};
 
 use crate::Stop;
@@ -30,8 +28,8 @@ pub(crate) fn shown(answer: Result<(), Unshown>) -> Result<(), Stop>
 
 /// The printed interface, and then the printed program.
 fn both_texts(alloc: Global, checked: &Checked) -> Result<Vec<u8>, NoMemory>
-    ensures text { IfOk result (λ text. text.items ≡ printed_both (interface_in checked.now) (program_in checked.now)) }
-    ensures passes { is_some (fault_of (interface_in checked.now).ops (program_in checked.now)) ≡ false }
+    ensures text { IfOk result (λ text. text.items ≡ both_printed checked.now) }
+    ensures passes { HasPassed checked.now }
 {
     let tree = checked.tree();
     let Ok(mut text) = gs_idl::print(alloc, checked.idl()) else {
@@ -46,9 +44,10 @@ fn both_texts(alloc: Global, checked: &Checked) -> Result<Vec<u8>, NoMemory>
 
 /// Writes the printed interface and program.
 pub(crate) fn show<O: Sink>(alloc: Global, checked: &Checked, out: &mut O) -> Result<(), Unshown>
-    ensures passes { is_some (fault_of (interface_in checked.now).ops (program_in checked.now)) ≡ false }
+    ensures passes { HasPassed checked.now }
     ensures ends { ShowEnds (O.faults out.old) (O.faults out.new) result }
-    ensures wrote { O.tells → ShowWrote (printed_both (interface_in checked.now) (program_in checked.now)) (O.written out.old) (O.written out.new) result }
+    ensures wrote { O.tells
+        → ShowWrote (both_printed checked.now) (O.written out.old) (O.written out.new) result }
 {
     let Ok(text) = both_texts(alloc, checked) else {
         return Err(Unshown::Memory);

@@ -7,10 +7,10 @@ use crate::kinds::{TextKind, fault_kind_text, kind_text};
 use gs_types::{FaultKind, Name, Sink, SinkFailed, put_all};
 use itoa::Buffer;
 
-/// Why a call of `gs` stops before it is done: the words have no reading, from the word at this place on; a text is
-/// absent; a text goes wrong, on a line, from 1, or as a whole, on line 0; the program met a fault on a line, or its
-/// fuel ran out; a task was lost; the disk failed; the
-/// output failed; memory was wanting.
+/// Why a call of `gs` stops before it is done: the words have no reading, from the word at this
+/// place on; a text is absent; a text goes wrong, on a line, from 1, or as a whole, on line 0; the
+/// program met a fault on a line, or its fuel ran out; a task was lost; the disk failed; the output
+/// failed; memory was wanting.
 #[derive(Drop)]
 pub enum Stop {
     Usage {
@@ -65,7 +65,8 @@ impl Stop {
 
     /// Writes the line of this stop. It takes no memory.
     pub(crate) fn tell<E: Sink>(&self, err: &mut E) -> Result<(), SinkFailed>
-        ensures all { E.tells → OnOk result (E.written err.new ≡ E.written err.old ++ line_of self.now) }
+        ensures all { E.tells
+            → OnOk result (E.written err.new ≡ E.written err.old ++ line_of self.now) }
         ensures rise { E.faults err.old ≤ E.faults err.new }
         ensures cause { OnErr result (Rises (E.faults err.old) (E.faults err.new)) }
     {
@@ -105,7 +106,8 @@ fn tell_parts<E: Sink>(
     middle: &[u8],
     back: &[u8],
 ) -> Result<(), SinkFailed>
-    ensures all { E.tells → OnOk result (E.written err.new ≡ E.written err.old ++ (front.now ++ (middle.now ++ back.now))) }
+    ensures all { E.tells → OnOk result (E.written err.new
+        ≡ E.written err.old ++ (front.now ++ (middle.now ++ back.now))) }
     ensures rise { E.faults err.old ≤ E.faults err.new }
     ensures cause { OnErr result (Rises (E.faults err.old) (E.faults err.new)) }
 {
@@ -121,7 +123,9 @@ fn tell_bad_text<E: Sink>(
     line: u32,
     kind: TextKind,
 ) -> Result<(), SinkFailed>
-    ensures all { E.tells → OnOk result (E.written err.new ≡ E.written err.old ++ (codes "gs: bad text: " ++ (name.now ++ (codes ":" ++ (decimal line ++ (codes ": " ++ (kind_text kind ++ 10 ∷ []))))))) }
+    ensures all { E.tells → OnOk result (E.written err.new ≡ E.written err.old
+        ++ (codes "gs: bad text: " ++ (name.now ++ (codes ":" ++ (decimal line
+        ++ (codes ": " ++ (kind_text kind ++ 10 ∷ []))))))) }
     ensures rise { E.faults err.old ≤ E.faults err.new }
     ensures cause { OnErr result (Rises (E.faults err.old) (E.faults err.new)) }
 {

@@ -76,7 +76,8 @@ pub(crate) fn bad_text(name: &Name, line: u32, kind: TextKind) -> Refusal
 
 fn interface_of(alloc: Global, text: &Text, name: &Name) -> Result<Idl, Refusal>
     ensures ends { JudgedOnly result }
-    ensures says { (file : Option (List ℕ)) → IsTextOf file text.now → InterfaceOf file name.now result }
+    ensures says { (file : Option (List ℕ)) → IsTextOf file text.now
+        → InterfaceOf file name.now result }
 {
     match text {
         Text::Long => Err(bad_text(
@@ -96,7 +97,8 @@ fn interface_of(alloc: Global, text: &Text, name: &Name) -> Result<Idl, Refusal>
 
 fn tree_of(alloc: Global, text: &Text, name: &Name) -> Result<Tree, Refusal>
     ensures ends { JudgedOnly result }
-    ensures says { (file : Option (List ℕ)) → IsTextOf file text.now → TreeOf file name.now result }
+    ensures says { (file : Option (List ℕ)) → IsTextOf file text.now
+        → TreeOf file name.now result }
 {
     match text {
         Text::Long => Err(bad_text(
@@ -116,7 +118,8 @@ fn tree_of(alloc: Global, text: &Text, name: &Name) -> Result<Tree, Refusal>
     }
 }
 
-/// Reads the interface and the program, and checks the program. Where one goes wrong, `BadText` with the first fault.
+/// Reads the interface and the program, and checks the program. Where one goes wrong, `BadText`
+/// with the first fault.
 pub(crate) fn checked(
     alloc: Global,
     idl_name: &Name,
@@ -125,7 +128,8 @@ pub(crate) fn checked(
     program: &Text,
 ) -> Result<Checked, Refusal>
     ensures ends { JudgedOnly result }
-    ensures says { (i p : Option (List ℕ)) → IsTextOf i idl.now → IsTextOf p program.now → BothOf i p idl_name.now program_name.now result }
+    ensures says { (i p : Option (List ℕ)) → IsTextOf i idl.now → IsTextOf p program.now
+        → BothOf i p idl_name.now program_name.now result }
 {
     let idl = match interface_of(alloc, idl, idl_name) {
         Ok(idl) => idl,
@@ -146,7 +150,8 @@ pub(crate) fn checked(
 
 /// The worker of a list; `None` exactly where the text isn't in the list's form.
 pub(crate) fn worker_of(alloc: Global, text: &Text) -> Result<Option<Worker>, NoMemory>
-    ensures { IfOk result (λ o. (file : Option (List ℕ)) → IsTextOf file text.now → WorkerOf file o) }
+    ensures { IfOk result (λ o. (file : Option (List ℕ)) → IsTextOf file text.now
+        → WorkerOf file o) }
 {
     match text {
         Text::Long => Ok(None),
@@ -162,8 +167,8 @@ pub(crate) struct Texts {
     pub workers: Text,
 }
 
-/// Reads the three texts. `NoText` exactly where one is absent, with the first in the order IDL, program,
-/// worker list.
+/// Reads the three texts. `NoText` exactly where one is absent, with the first in the order IDL,
+/// program, worker list.
 pub(crate) fn read_texts<D: Disk>(
     alloc: Global,
     disk: &mut D,
@@ -173,7 +178,8 @@ pub(crate) fn read_texts<D: Disk>(
     ensures images { D.tells → Passes Same (D.state disk.old) (D.state disk.new) }
     ensures rise { (D.state disk.old).faults ≤ (D.state disk.new).faults }
     ensures ends { TextsEnd (D.state disk.old).faults (D.state disk.new).faults result }
-    ensures told { D.tells → TextsTold (D.state disk.old).folder words.now.idl words.now.program words.now.workers result }
+    ensures told { D.tells → TextsTold (D.state disk.old).folder
+        words.now.idl words.now.program words.now.workers result }
 {
     let idl = match read_text(alloc, disk, &words.idl) {
         Ok(text) => text,

@@ -30,7 +30,8 @@ pub(crate) enum Command {
 }
 
 fn name_at(words: &Vec<String>, at: usize) -> Result<Name, usize>
-    ensures { MatchResult result (λ n. IsNameAt (map string_bytes words.now.items) at n) (λ e. (e ≡ at) × NoNameAt (map string_bytes words.now.items) at) }
+    ensures { let texts = map string_bytes words.now.items
+        in MatchResult result (λ n. IsNameAt texts at n) (λ e. (e ≡ at) × NoNameAt texts at) }
 {
     if at >= words.len() {
         return Err(at);
@@ -52,7 +53,9 @@ fn has_verb(words: &Vec<String>, verb: &str) -> bool
 
 fn read_run(words: &Vec<String>) -> Result<Words, usize>
     requires { HasVerb (map string_bytes words.now.items) (codes "run") }
-    ensures { MatchResult result (λ w. IsRun (map string_bytes words.now.items) w.idl w.program w.workers) (λ at. IsUsage (map string_bytes words.now.items) at) }
+    ensures { let texts = map string_bytes words.now.items
+        in MatchResult result
+        (λ w. IsRun texts w.idl w.program w.workers) (λ at. IsUsage texts at) }
 {
     let idl = name_at(words, 1)?;
     let program = name_at(words, 2)?;
@@ -69,7 +72,8 @@ fn read_run(words: &Vec<String>) -> Result<Words, usize>
 
 fn read_check(words: &Vec<String>) -> Result<CheckWords, usize>
     requires { HasVerb (map string_bytes words.now.items) (codes "check") }
-    ensures { MatchResult result (λ w. IsCheck (map string_bytes words.now.items) w.idl w.program) (λ at. IsUsage (map string_bytes words.now.items) at) }
+    ensures { let texts = map string_bytes words.now.items
+        in MatchResult result (λ w. IsCheck texts w.idl w.program) (λ at. IsUsage texts at) }
 {
     let idl = name_at(words, 1)?;
     let program = name_at(words, 2)?;
@@ -79,8 +83,9 @@ fn read_check(words: &Vec<String>) -> Result<CheckWords, usize>
     Ok(CheckWords { idl, program })
 }
 
-/// Reads the words of a command: `run IDL PROGRAM WORKERS` or `check IDL PROGRAM`. The error is the place,
-/// from 0, of the first word with which no command goes on, or the number of words where they are too few.
+/// Reads the words of a command: `run IDL PROGRAM WORKERS` or `check IDL PROGRAM`. The error is the
+/// place, from 0, of the first word with which no command goes on, or the number of words where
+/// they are too few.
 pub(crate) fn read_words(words: &Vec<String>) -> Result<Command, usize>
     ensures { Asks (map string_bytes words.now.items) (wish_of result) }
 {

@@ -3,8 +3,10 @@ use Rattle.std.proofs.Common.{◌≡◌, ◌≢◌, ℕ, ◌+◌, ◌<◌, ◌�
 use Rattle.std.specs.Prelude.{bytes_eq, ◌||◌, IsSome}
 use Rattle.std.proofs.lemmas.List.Folds.{list_any-append}
 use Rattle.std.proofs.lemmas.List.{take_more, take_all, append-nil, drop_all}
-use Rattle.gs_disk.specs.Folder.{Folder, overwritten, MayWrite}
-use Rattle.gs_serial.specs.Files.{Puts, Covers, is_among, over, or_else}
+use Rattle.gs_disk.specs.Folder.{Folder, DiskState, KeepsOthers, Same, overwritten, MayWrite}
+use Rattle.gs_disk.specs.Moments.{Passes}
+use Rattle.gs_disk.specs.Going.{started, goes_on}
+use Rattle.gs_serial.specs.Files.{Puts, Covers, KeepsUnchanged, is_among, over, or_else}
 use Rattle.gs_serial.proofs.Names.{same_test, other_test}
 use Rattle.gs_serial.proofs.Changes.{name_test}
 
@@ -84,3 +86,29 @@ others_stay names i files first now was x none = was x ∙ ap (λ (o : Option (L
 
 pub not_this : (files : Folder) (n x bytes : List ℕ) → files n ≡ Some bytes → files x ≡ None → x ≢ n
 not_this files n x bytes has none e = let some : Some bytes ≡ None = sym has ∙ ap files (sym e) ∙ none in absurd cc
+
+-- ---- what a crash may leave meanwhile
+
+keeps : (changed f g h : Folder) → KeepsUnchanged changed f g → KeepsUnchanged changed g h
+    → KeepsUnchanged changed f h
+keeps changed f g h one two = record { each = λ x none. two.each x none ∙ one.each x none }
+
+pub none_written : (changed : Folder) (s : DiskState) → Passes (KeepsUnchanged changed) s s
+none_written changed s = started (KeepsUnchanged changed) (λ f. record { each = λ x none. refl }) s
+
+-- one file more
+pub more_written : (changed : Folder) (n bytes : List ℕ) (a b c : DiskState)
+    → changed n ≡ Some bytes → Passes (KeepsUnchanged changed) a b
+    → Passes (KeepsOthers (n ∷ [])) b c → Passes (KeepsUnchanged changed) a c
+more_written changed n bytes a b c has one two =
+    goes_on (KeepsUnchanged changed) (KeepsOthers (n ∷ [])) (KeepsUnchanged changed) a b c one two
+    (λ f g s. s)
+    (λ f g h left s t. keeps changed f g h s
+    (record { each = λ x none. t.each x (not_this changed n x bytes has none, tt) }))
+
+-- the sync
+pub written_synced : (changed : Folder) (a b c : DiskState) → Passes (KeepsUnchanged changed) a b
+    → Passes Same b c → Passes (KeepsUnchanged changed) a c
+written_synced changed a b c one two =
+    goes_on (KeepsUnchanged changed) Same (KeepsUnchanged changed) a b c one two (λ f g s. s)
+    (λ f g h left s t. subst (KeepsUnchanged changed f) (sym t.is) s)

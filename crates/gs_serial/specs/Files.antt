@@ -34,6 +34,10 @@ or_else (Some b) o = Some b
 abbrev pub over : Folder → Folder → Folder
 over top below x = or_else (top x) (below x)
 
+-- each file that wasn't changed is the same
+pub record KeepsUnchanged (changed old new : Folder) : Type 0 where
+  pub each : (x : List ℕ) → changed x ≡ None → new x ≡ old x
+
 -- each file has its name in the list, and is within the limit of a file
 pub record Covers (names : List (List ℕ)) (files : Folder) : Type 0 where
   pub each : (x : List ℕ) → IsSome (files x) → is_among names x ≡ true

@@ -121,7 +121,8 @@ pub(crate) fn answer<D: Disk, K: Link>(
         → TellsAfter program.now idl.now.ops (K.tells (link_of site.old)) past w []
         → AnswerTold (K.L.meaning (K.law (link_of site.old))) program.now idl.now.ops
         (D.state (disk_of site.old)).folder (changed_files world.old.changed)
-        (changed_files world.new.changed) world.new.values.tasks (K.tells (link_of site.new)) past w question result }
+        (changed_files world.new.changed) world.new.values.tasks
+        (K.tells (link_of site.new)) past w question result }
 {
     match question {
         Question::Call { op, line: _, args } => {

@@ -61,7 +61,8 @@ pub(crate) fn keep(
     ensures covers { Covers changed.new.names (changed_files changed.new) }
     ensures files { OnOk result ((folder : Folder) (files : Files)
         → ShowsFiles (changed_files changed.old) folder files
-        → ShowsFiles (changed_files changed.new) folder (with_outs called.now args.now outs files)) }
+        → ShowsFiles (changed_files changed.new) folder
+        (with_outs called.now args.now outs files)) }
     ensures values { IfOk result (λ l. l ≡ lefts 1 args.now outs) }
     ensures others { OnOk result (StayBut (left_names called.now args.now)
         (changed_files changed.old) (changed_files changed.new)) }

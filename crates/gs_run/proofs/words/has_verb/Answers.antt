@@ -7,5 +7,7 @@ use Rattle.gs_run.proofs.words.has_verb.Goals as goal
 
 pub returns-in-Some : goal.returns-in-Some
 returns-in-Some c =
-    let first = first_of string_bytes c.args.words.now.items c.in-Some.word.now (c.in-Some.ensures.value ∙ ap (λ l. slice_get l 0) c.deref.ensures.value) in
-    verb_test _ _ c.args.verb.now c.eq.result first (c.eq.ensures ∙ ap (λ l. bytes_eq l c.args.verb.now) c.as_str.ensures.value)
+    let first = first_of string_bytes c.args.words.now.items c.in-Some.word.now
+    (c.in-Some.ensures.value ∙ ap (λ l. slice_get l 0) c.deref.ensures.value) in
+    verb_test _ _ c.args.verb.now c.eq.result first (c.eq.ensures
+    ∙ ap (λ l. bytes_eq l c.args.verb.now) c.as_str.ensures.value)

@@ -8,29 +8,35 @@ use Rattle.gs_run.proofs.words.read_run.Goals as goal
 pub returns-in_err-idl : goal.returns-in_err-idl
 returns-in_err-idl c =
     let words = map string_bytes c.args.words.now.items in
-    let usage : IsUsage words c.in_err-idl.field-0.0 = run_no_idl words _ c.requires c.in_err-idl.ensures in
+    let usage : IsUsage words c.in_err-idl.field-0.0 =
+    run_no_idl words _ c.requires c.in_err-idl.ensures in
     search rules
 
 pub returns-in_err-program : goal.returns-in_err-program
 returns-in_err-program c =
     let words = map string_bytes c.args.words.now.items in
-    let usage : IsUsage words c.in_err-program.field-0.0 = run_no_program words _ _ c.requires c.in_ok-idl.ensures c.in_err-program.ensures in
+    let usage : IsUsage words c.in_err-program.field-0.0 =
+    run_no_program words _ _ c.requires c.in_ok-idl.ensures c.in_err-program.ensures in
     search rules
 
 pub returns-in_err-workers : goal.returns-in_err-workers
 returns-in_err-workers c =
     let words = map string_bytes c.args.words.now.items in
-    let usage : IsUsage words c.in_err-workers.field-0.0 = run_no_workers words _ _ _ c.requires c.in_ok-idl.ensures c.in_ok-program.ensures c.in_err-workers.ensures in
+    let usage : IsUsage words c.in_err-workers.field-0.0 =
+    run_no_workers words _ _ _ c.requires c.in_ok-idl.ensures c.in_ok-program.ensures
+    c.in_err-workers.ensures in
     search rules
 
 pub returns-then-len-gt4 : goal.returns-then-len-gt4
 returns-then-len-gt4 c =
     let words = c.args.words.now in
     let many = length-map words.items string_bytes in
-    run_too_many (map string_bytes words.items) _ _ _ c.requires c.in_ok-idl.ensures c.in_ok-program.ensures c.in_ok-workers.ensures (omega (arith, many, words.ok.0))
+    run_too_many (map string_bytes words.items) _ _ _ c.requires c.in_ok-idl.ensures
+    c.in_ok-program.ensures c.in_ok-workers.ensures (omega (arith, many, words.ok.0))
 
 pub returns : goal.returns
 returns c =
     let words = c.args.words.now in
     let many = length-map words.items string_bytes in
-    is_run (map string_bytes words.items) _ _ _ c.requires c.in_ok-idl.ensures c.in_ok-program.ensures c.in_ok-workers.ensures (omega (arith, many, words.ok.0))
+    is_run (map string_bytes words.items) _ _ _ c.requires c.in_ok-idl.ensures
+    c.in_ok-program.ensures c.in_ok-workers.ensures (omega (arith, many, words.ok.0))

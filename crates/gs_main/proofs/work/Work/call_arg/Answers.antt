@@ -4,7 +4,7 @@ use Rattle.gs_talk.specs.declared.question.CallArg.TheVariants as arg
 use Rattle.gs_talk.specs.Values.{text_of}
 use Rattle.gs_talk.specs.Talk.{file_fault, file_at, arg_of}
 use Rattle.gs_idl.specs.declared.idl.ParamKind.{ParamKind}
-use Rattle.gs_main.specs.Places.{arg_in}
+use Rattle.gs_pieces.specs.Places.{arg_in}
 use Rattle.gs_main.specs.Seen.{given_of, state_of}
 use Rattle.gs_main.proofs.work.Work.call_arg.Goals as goal
 

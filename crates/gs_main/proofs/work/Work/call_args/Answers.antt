@@ -3,9 +3,9 @@ use Rattle.std.specs.Prelude.{option_map, slice_get}
 use Rattle.gs_idl.specs.Interface.{Interface, Param, params_at}
 use Rattle.gs_talk.specs.declared.question.CallArg.{CallArg}
 use Rattle.gs_talk.specs.Talk.{file_fault, file_at, files_fault}
-use Rattle.gs_main.specs.Places.{arg_in, args_in}
+use Rattle.gs_pieces.specs.Places.{arg_in, args_in}
 use Rattle.gs_main.specs.Seen.{given_of, state_of}
-use Rattle.gs_main.proofs.Passing.{place_of_both, files_pass, files_stop, files_end, viewed_more, viewed_all, fault_passes}
+use Rattle.gs_pieces.proofs.Passing.{place_of_both, files_pass, files_stop, files_end, viewed_more, viewed_all, fault_passes}
 use Rattle.gs_main.proofs.work.Work.call_args.Goals as goal
 
 pub returns-in-Err : goal.returns-in-Err

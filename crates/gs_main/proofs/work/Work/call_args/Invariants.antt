@@ -1,7 +1,7 @@
 use Rattle.std.proofs.Common.{◌≡◌, take, drop}
 use Rattle.gs_idl.specs.Interface.{params_at}
 use Rattle.gs_talk.specs.Talk.{files_fault}
-use Rattle.gs_main.specs.Places.{args_in}
+use Rattle.gs_pieces.specs.Places.{args_in}
 use Rattle.gs_main.specs.Seen.{given_of, state_of}
 use Rattle.gs_main.proofs.work.Work.call_args.Given as goal
 

@@ -2,7 +2,7 @@ use Rattle.std.proofs.Common.{◌≡◌, Ok, Err, refl, map, subst}
 use Rattle.gs_idl.specs.Interface.{Interface, params_at}
 use Rattle.gs_talk.specs.Passed.{passed_values}
 use Rattle.gs_orders.specs.Steps.{handed_of}
-use Rattle.gs_main.specs.Places.{args_in, FindsPassed}
+use Rattle.gs_pieces.specs.Places.{args_in, FindsPassed}
 use Rattle.gs_main.specs.Seen.{given_of, state_of}
 use Rattle.gs_main.proofs.Doing.{has_passed, passed_meet}
 use Rattle.gs_main.proofs.work.Work.passed.Goals as goal

@@ -5,10 +5,15 @@ use Rattle.gs_run.proofs.Answering.{parts_line, whole_line}
 use Rattle.gs_run.proofs.stop.Stop.tell.Goals as goal
 
 pub returns-in-Lost-clause-all : goal.returns-in-Lost-clause-all
-returns-in-Lost-clause-all g c = λ told. parts_line c.tell_parts-in-Lost.result _ _ (codes "gs: task lost: ") _ _ (10 ∷ []) _ (c.as_bytes-in-Lost.ensures.value ∙ c.format-in-Lost.ensures.text) (ap line_of c.in-Lost.is) (c.tell_parts-in-Lost.ensures.all told)
+returns-in-Lost-clause-all g c = λ told. parts_line c.tell_parts-in-Lost.result _ _
+    (codes "gs: task lost: ") _ _ (10 ∷ []) _ (c.as_bytes-in-Lost.ensures.value
+    ∙ c.format-in-Lost.ensures.text) (ap line_of c.in-Lost.is) (c.tell_parts-in-Lost.ensures.all
+    told)
 
 pub returns-in-Disk-clause-all : goal.returns-in-Disk-clause-all
-returns-in-Disk-clause-all g c = λ told. whole_line c.put_all.result _ _ _ _ (ap line_of c.in-Disk.is) (c.put_all.ensures.all told)
+returns-in-Disk-clause-all g c = λ told. whole_line c.put_all.result _ _ _ _
+    (ap line_of c.in-Disk.is) (c.put_all.ensures.all told)
 
 pub returns-in-Sink-clause-all : goal.returns-in-Sink-clause-all
-returns-in-Sink-clause-all g c = λ told. whole_line c.put_all-in-Sink.result _ _ _ _ (ap line_of c.in-Sink.is) (c.put_all-in-Sink.ensures.all told)
+returns-in-Sink-clause-all g c = λ told. whole_line c.put_all-in-Sink.result _ _ _ _
+    (ap line_of c.in-Sink.is) (c.put_all-in-Sink.ensures.all told)

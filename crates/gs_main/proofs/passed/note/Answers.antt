@@ -1,6 +1,0 @@
-use Rattle.std.proofs.Common.{◌∙◌}
-use Rattle.gs_main.proofs.Passing.{name_noted}
-use Rattle.gs_main.proofs.passed.note.Goals as goal
-
-pub returns-in-Ok : goal.returns-in-Ok
-returns-in-Ok c = c.in-Ok.ensures.keys ∙ name_noted c.args.names.now.keys c.args.name
