@@ -8,3 +8,4 @@ pub mod Called
 pub mod Needing
 pub mod Ending
 pub mod Fitting
+pub mod Starting

@@ -1,9 +1,9 @@
 -- Laws of histories.
-use Rattle.std.specs.Prelude.{◌≡◌, ℕ, ◌<◌, ◌∷◌, true, List, map, slice_get, Option, Some, None, IsSome}
+use Rattle.std.specs.Prelude.{◌≡◌, ℕ, ◌<◌, ◌≤◌, ◌∷◌, true, List, map, slice_get, Option, Some, None, IsSome}
 use Rattle.gs_types.specs.declared.job.Job.{Job}
 use Rattle.gs_types.specs.declared.note.Version.{Version}
 use Rattle.gs_types.specs.declared.value.Value.{Value}
-use Rattle.gs_types.specs.History.{History, started, outs_in, worker_in}
+use Rattle.gs_types.specs.History.{History, started, outs_in, worker_in, busy}
 use Rattle.gs_talk.specs.declared.question.Question.{Question}
 use Rattle.gs_talk.specs.Seq.{Task, task_at, IsTask, EndsIn}
 use Rattle.gs_talk.specs.Actions.{DependsOn}
@@ -29,6 +29,20 @@ LossIsLoss = (s : Setup) (h : History) (l : Loss) → NoLoss s h → IsLoss s h 
 abbrev pub StartsLoseNothing : Type 0
 StartsLoseNothing = (s : Setup) (h : History) (n w : ℕ) (job : Job) → NoLoss s h
     → NoLoss s (started n w job ∷ h)
+
+-- a worker never has more jobs in flight than slots
+abbrev pub SlotsSuffice : Type 0
+SlotsSuffice = (s : Setup) (h : History) (w : ℕ) → Good s h → busy h w ≤ s.slots w
+
+-- a task that was started is not done before, nor in flight, and nothing was lost
+pub record StartsOnce (h : History) (n : ℕ) (losses : Type 0) : Type 0 where
+  pub not_done : outs_in h n ≡ None
+  pub not_flying : worker_in h n ≡ None
+  pub none_lost : losses
+
+abbrev pub EachStartsOnce : Type 0
+EachStartsOnce = (s : Setup) (h : History) (n w : ℕ) (job : Job) → Good s (started n w job ∷ h)
+    → StartsOnce h n (NoLoss s h)
 
 -- what is in flight was called within the frontier, isn't done, and its inputs are there
 abbrev pub FlyingIsOpen : Type 0

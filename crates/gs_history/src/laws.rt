@@ -3,6 +3,7 @@
 ghost use Rattle.gs_history.specs.Needs.{FrontierIsOfNeeds};
 ghost use Rattle.gs_history.specs.Laws.{
   DoneIsTrue,
+  EachStartsOnce,
   FlyingIsOpen,
   InputsAreVersions,
   LossIsLoss,
@@ -10,6 +11,7 @@ ghost use Rattle.gs_history.specs.Laws.{
   NotesFitUnlessMisfit,
   NotesOfAnyFuel,
   OneLoss,
+  SlotsSuffice,
   StartsLoseNothing,
   StoppedIsEnded,
 };
@@ -53,6 +55,13 @@ pub fn notes_fit()
 /// reads.
 pub fn inputs_are_versions()
     ensures { InputsAreVersions }
+{}
+
+/// A task that is started was neither done nor in flight, with nothing lost before; and no worker
+/// ever has more jobs than slots.
+pub fn starts_are_due()
+    ensures once { EachStartsOnce }
+    ensures slots { SlotsSuffice }
 {}
 
 /// Something is always due: where no job is in flight, nothing may start and nothing was lost, the
