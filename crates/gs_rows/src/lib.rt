@@ -19,3 +19,5 @@ mod real;
 mod rows;
 #[cfg(test)]
 mod values;
+#[cfg(test)]
+mod whole;
