@@ -9,3 +9,4 @@ pub mod Needing
 pub mod Ending
 pub mod Fitting
 pub mod Starting
+pub mod Refusing

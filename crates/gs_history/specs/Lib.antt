@@ -5,4 +5,5 @@ pub mod Ready
 pub mod Losses
 pub mod Good
 pub mod Needs
+pub mod Refusals
 pub mod Laws

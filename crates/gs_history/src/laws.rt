@@ -1,6 +1,7 @@
 //! Laws of histories, as contracts of functions that do nothing.
 
 ghost use Rattle.gs_history.specs.Needs.{FrontierIsOfNeeds};
+ghost use Rattle.gs_history.specs.Refusals.{CallsByVersions};
 ghost use Rattle.gs_history.specs.Laws.{
   DoneIsTrue,
   EachStartsOnce,
@@ -20,6 +21,12 @@ ghost use Rattle.gs_history.specs.Laws.{
 /// needs, and a call's task has room in the window.
 pub fn frontier_is_of_needs()
     ensures { FrontierIsOfNeeds }
+{}
+
+/// A call is answered by the originals that it reads and by what the program closed, whether or not
+/// the tasks are done whose outputs it reads.
+pub fn calls_by_versions()
+    ensures { CallsByVersions }
 {}
 
 /// A history has one loss at most, and none where nothing was lost; a start loses nothing.
