@@ -2,7 +2,7 @@
 use Rattle.std.proofs.Common.{◌≡◌, ◌≢◌, ℕ, ◌+◌, ◌<◌, ◌≤◌, List, [], ◌∷◌, ◌++◌, length, take, drop, Option, Some, None, IfSome, sym, ◌∙◌, ap, subst, arith}
 use Rattle.std.specs.Prelude.{option_map}
 use Rattle.std.proofs.Math.Seq.{take-add}
-use Rattle.std.proofs.lemmas.List.{take-take, take_at, take_all, drop_all, append-nil, length-take-le, length-drop}
+use Rattle.std.proofs.lemmas.List.{take-take, take_at, drop_all, append-nil, length-take-le, length-drop}
 use Rattle.gs_disk.specs.Folder.{Folder, DiskState, KeepsOthers, Tears, IsRead, Same, overwritten}
 use Rattle.gs_disk.specs.Moments.{Passes}
 use Rattle.gs_disk.specs.Going.{AreAmong, keeps, keeps_none, keeps_files, keeps_started, keeps_same, keeps_write}

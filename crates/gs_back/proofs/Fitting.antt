@@ -13,7 +13,7 @@ use Rattle.gs_types.specs.declared.note.Version.{Version}
 use Rattle.gs_types.specs.declared.note.Version.TheVariants as versions
 use Rattle.gs_disk.specs.Folder.{Outside}
 use Rattle.gs_disk.specs.Name.{IsUser}
-use Rattle.gs_fields.specs.Format.{Format, byte, four, eight, bytes, pair, counted, all_fit}
+use Rattle.gs_fields.specs.Format.{Format, byte, four, eight, bytes, all_fit}
 use Rattle.gs_entries.specs.Entries.{entry}
 use Rattle.gs_entries.specs.Notes.{within, name, task, place, file_len, version, final}
 use Rattle.gs_entries.specs.Gate.{ends_once, calls_in, named_in, written_in, numbers, distinct_after, first_writing, finals_rise, gate_fields, gate_ok, gate}
@@ -22,7 +22,7 @@ use Rattle.gs_entries.specs.declared.entry.GateNote.{GateNote}
 use Rattle.gs_entries.proofs.Loop.{both, parts_fit}
 use Rattle.gs_store.specs.Keeps.{AreUsers}
 use Rattle.gs_store.specs.Names.{IsKept}
-use Rattle.gs_back.specs.Finals.{final_of, finals_in, names_of}
+use Rattle.gs_back.specs.Finals.{finals_in, names_of}
 
 -- what its finals rest on
 pub record IsGate (g : GateNote) : Type 0 where

@@ -1,12 +1,12 @@
 -- The files of a store are removed.
-use Rattle.std.proofs.Common.{◌≡◌, ◌≢◌, ℕ, zero, suc, ◌+◌, ◌<◌, ◌≤◌, ◌⊎◌, true, false, List, [], ◌∷◌, length, get_or, Option, Some, None, Result, refl, sym, ap, subst, ◌∙◌, inl, inr, ⊎_elim, arith, below_more}
+use Rattle.std.proofs.Common.{◌≡◌, ◌≢◌, ℕ, zero, suc, ◌+◌, ◌<◌, ◌≤◌, ◌⊎◌, true, List, [], ◌∷◌, length, get_or, Option, Some, None, Result, refl, sym, ap, subst, ◌∙◌, inl, inr, ⊎_elim, arith, below_more}
 use Rattle.std.specs.Prelude.{◌↔◌, OnOk, IsSome, is_some, slice_index_or, bytes_eq}
 use Rattle.std.proofs.lemmas.Bool.{cases_Bool}
 use Rattle.std.proofs.lemmas.Slice.Eq.{bytes_eq-Decides}
 use Rattle.gs_disk.specs.Folder.{Folder, DiskState, Outside, KeepsOthers, Same, Has}
-use Rattle.gs_disk.specs.Moments.{Leaves, LeavesOnly, EachNow, Passes, Always}
-use Rattle.gs_disk.specs.Going.{AreAmong, started, goes_on, always_started, always_goes_on, always_same, always_wider, item_among, same_started}
-use Rattle.gs_disk.specs.Name.{IsUser, IsStore}
+use Rattle.gs_disk.specs.Moments.{LeavesOnly, EachNow, Passes, Always}
+use Rattle.gs_disk.specs.Going.{started, goes_on, always_started, always_goes_on, always_same, item_among}
+use Rattle.gs_disk.specs.Name.{IsStore}
 use Rattle.gs_log.specs.Names.{log_name, mark_name, mark_is_store, log_is_not_mark}
 use Rattle.gs_entries.specs.declared.entry.Entry.{Entry}
 use Rattle.gs_store.specs.Apart.{user_not_mark, mark_not_version}

@@ -1,17 +1,17 @@
 -- Finals that are set one after the other.
-use Rattle.std.proofs.Common.{◌≡◌, ◌≢◌, ℕ, zero, suc, ◌+◌, ◌<◌, ◌≤◌, List, [], ◌∷◌, ◌++◌, length, get_or, take, drop, drop-cons, Option, Some, None, Result, Ok, Err, refl, sym, ap, subst, ◌∙◌, arith}
+use Rattle.std.proofs.Common.{◌≡◌, ◌≢◌, ℕ, zero, suc, ◌+◌, ◌<◌, ◌≤◌, List, [], ◌∷◌, ◌++◌, length, get_or, take, drop, Option, Some, None, Result, Ok, Err, refl, sym, ap, subst, ◌∙◌, arith}
 use Rattle.std.specs.Prelude.{OnOk, IfErr, IsOk, slice_get, slice_index_or}
 use Rattle.std.proofs.lemmas.Option.{get_or_from_slice_get}
-use Rattle.std.proofs.lemmas.List.{take_more, take-append-drop, take_all}
+use Rattle.std.proofs.lemmas.List.{take_more, take_all}
 use Rattle.gs_types.specs.declared.note.FinalNote.{FinalNote}
 use Rattle.gs_types.specs.declared.note.Version.{Version}
 use Rattle.gs_disk.specs.Folder.{Folder, DiskState, Outside, KeepsOthers, Same}
-use Rattle.gs_disk.specs.Moments.{Leaves, LeavesOnly, EachNow, Passes, Always}
+use Rattle.gs_disk.specs.Moments.{LeavesOnly, EachNow, Passes, Always}
 use Rattle.gs_disk.specs.Going.{AreAmong, always_started, always_goes_on, always_same, keeps_same, same_started}
 use Rattle.gs_entries.specs.declared.entry.Entry.{Entry}
 use Rattle.gs_entries.specs.declared.entry.GateNote.{GateNote}
 use Rattle.gs_store.specs.Apart.{user_not_version}
-use Rattle.gs_store.specs.Keeps.{Base, Keeps, AreUsers, keeps_free, outside_users}
+use Rattle.gs_store.specs.Keeps.{Base, Keeps, keeps_free, outside_users}
 use Rattle.gs_store.specs.Names.{version_name, IsKept}
 use Rattle.gs_store.specs.Ordered.{gate_in}
 use Rattle.gs_store.specs.Spans.{TouchesOnly}

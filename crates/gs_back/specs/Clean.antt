@@ -1,5 +1,5 @@
 -- What removing a record does.
-use Rattle.std.specs.Prelude.{◌≡◌, ◌⊎◌, ℕ, List, [], ◌∷◌, Option, None, Result, OnOk, is_some}
+use Rattle.std.specs.Prelude.{◌≡◌, ◌⊎◌, ℕ, List, [], ◌∷◌, None, Result, OnOk, is_some}
 use Rattle.gs_disk.specs.Folder.{Folder, DiskState, Has}
 use Rattle.gs_disk.specs.Moments.{LeavesOnly, EachNow, Passes, Always}
 use Rattle.gs_disk.specs.Name.{IsStore}

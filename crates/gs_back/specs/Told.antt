@@ -1,5 +1,5 @@
 -- What bringing results to the user's files does, and which error comes when.
-use Rattle.std.specs.Prelude.{◌≡◌, ◌≢◌, ℕ, List, Option, Some, Result, IsErrOf, OnOk}
+use Rattle.std.specs.Prelude.{◌≡◌, ◌≢◌, ℕ, List, Some, Result, IsErrOf, OnOk}
 use Rattle.gs_types.specs.Counts.{Caused, Rises}
 use Rattle.gs_types.specs.declared.note.Version.{Version}
 use Rattle.gs_disk.specs.Folder.{Folder, DiskState, KeepsOthers}

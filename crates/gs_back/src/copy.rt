@@ -19,11 +19,13 @@ pub fn copy_file<D: Disk>(
 ) -> Result<u64, DiskErr>
     requires apart { from.now ≢ to.now }
     requires small { len ≤ FILE_LIMIT }
-    requires long { D.tells → option_map length ((D.state disk.old).folder from.now) ≡ Some len }
+    requires long { D.tells
+        → option_map length ((D.state disk.old).folder from.now) ≡ Some len }
     ensures count { D.tells → IfOk result (λ n. n ≡ len) }
     ensures set { D.tells
         → OnOk result ((D.state disk.new).folder to.now ≡ (D.state disk.old).folder from.now) }
-    ensures touches { D.tells → TouchesOnly (to.now ∷ []) (D.state disk.old) (D.state disk.new) }
+    ensures touches { D.tells
+        → TouchesOnly (to.now ∷ []) (D.state disk.old) (D.state disk.new) }
     ensures cause { HasCause (D.state disk.old) (D.state disk.new) result }
 {
     disk.create(to)?;

@@ -51,9 +51,9 @@ fn read_book(alloc: Global, log: &Log) -> Result<Book, StoreErr>
 
 impl Store {
     /// Reads the store of a disk. It begins with a sync, and writes nothing. In this order:
-    /// `BadLog` exactly where the log's file is none, `BadRecord` exactly where a record is no entry
-    /// or stands out of order, with the first, and `LostVersion` exactly where the file of a version
-    /// that the entries name is absent or of another length, with the first.
+    /// `BadLog` exactly where the log's file is none, `BadRecord` exactly where a record is no
+    /// entry or stands out of order, with the first, and `LostVersion` exactly where the file of a
+    /// version that the entries name is absent or of another length, with the first.
     pub fn load<D: Disk>(alloc: Global, disk: &mut D) -> Result<Store, StoreErr>
         ensures loaded { D.tells → IfOk result (IsLoaded (D.state disk.new)) }
         ensures refused { D.tells → IfErr result (Refuses (D.state disk.new).folder) }

@@ -1,8 +1,8 @@
-use Rattle.std.proofs.Common.{◌≡◌, ℕ, List, [], ◌∷◌, length, ◌<◌, ◌≤◌, arith, refl, sym, ap, subst, ◌∙◌}
+use Rattle.std.proofs.Common.{ℕ, List, [], ◌∷◌, length, ◌≤◌, arith, sym, ap, subst, ◌∙◌}
 use Rattle.gs_types.specs.declared.note.FinalNote.{FinalNote}
 use Rattle.gs_store.specs.Spans.{TouchesOnly}
 use Rattle.gs_back.proofs.Fitting.{is_gate, is_final, name_within}
-use Rattle.gs_back.proofs.Setting.{in_finals, named, none_set, touches_more, set_more, all_set, all_stood, refuses}
+use Rattle.gs_back.proofs.Setting.{in_finals, named, touches_more, set_more, all_set, all_stood, refuses}
 use Rattle.gs_back.proofs.back.set_finals.Goals as goal
 
 pub at-requires : goal.at-requires

@@ -1,4 +1,4 @@
-use Rattle.std.proofs.Common.{Ok, Err, rules, ◌≡◌, ap, ◌∙◌, subst, sym}
+use Rattle.std.proofs.Common.{Ok, Err, rules, subst, sym}
 use Rattle.gs_disk.specs.Folder.{Folder}
 use Rattle.gs_back.specs.Finals.{finals_in, finals_of, AreSet}
 use Rattle.gs_back.proofs.Fitting.{is_gate}

@@ -1,4 +1,4 @@
-use Rattle.std.proofs.Common.{Ok, rules, [], ◌∷◌, subst, ◌≡◌, List, ℕ, None, sym, ap, ◌∙◌, refl}
+use Rattle.std.proofs.Common.{Ok, rules, [], ◌∷◌, subst, ◌≡◌, List, ℕ, None, ap, ◌∙◌, refl}
 use Rattle.gs_disk.specs.Folder.{Folder, KeepsOthers, Same}
 use Rattle.gs_disk.specs.Moments.{Passes}
 use Rattle.gs_disk.specs.Going.{same_started}
