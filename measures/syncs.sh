@@ -1,7 +1,7 @@
 #!/bin/sh
 # Counts by strace what the entry that a task is done, with one file that the task gave, costs over a real folder: two
 # syncs of the log, one of the file, and at most one of the folder. It builds a small program over the store in a scratch
-# copy of the repository. Usage: sh checks/syncs.sh
+# copy of the repository. It is no check of the gate, since it needs strace. Usage: sh measures/syncs.sh
 top=$(cd "$(dirname "$0")/.." && pwd)
 command -v strace > /dev/null || { echo "no strace here"; exit 2; }
 copy=$(mktemp -d)
