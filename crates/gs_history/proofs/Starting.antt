@@ -9,7 +9,7 @@ use Rattle.gs_history.proofs.Opening.{calm}
 pub each_starts_once : EachStartsOnce
 each_starts_once s h n w job good =
     let due = good.1.due in
-    record { not_done = due.ready.opened.unfinished; not_flying = due.ready.idle; none_lost = due.losses }
+    record { not_done = due.ready.opened.unfinished; not_flying = due.ready.idle; losses = due.losses }
 
 one_more : (s : Setup) (h : History) (u w : ℕ) → busy h w ≤ s.slots w → busy h u < s.slots u → busy h w + at_worker (Some u) w ≤ s.slots w
 one_more s h u w before free = elim (eqb_tells u w) [

@@ -7,7 +7,7 @@ use Rattle.gs_types.specs.declared.value.Value.{Value}
 use Rattle.gs_types.specs.History.{History, outs_in}
 use Rattle.gs_talk.specs.declared.question.Question.{Question}
 use Rattle.gs_talk.specs.declared.question.Question.TheVariants.{Call, Use, OpenFile, CloseFile, Barrier, End, Fault, FuelOut}
-use Rattle.gs_talk.specs.Talk.{Dialogue, Done, Ask, Stop}
+use Rattle.gs_talk.specs.Talk.{State, Dialogue, Done, Ask, Stop}
 use Rattle.gs_talk_laws.specs.Versions.{latest, writings}
 use Rattle.gs_history.specs.Setup.{Setup, rest_at, count_at}
 
@@ -62,5 +62,5 @@ IsFrontier s h k = MayGoOn s h k (rest_at s k) → ⊥
 
 -- the program's last question comes next, and each task is done
 pub record HasStopped (s : Setup) (h : History) (k : ℕ) (q : Question) : Type 0 where
-  pub last : (st : _) × (rest_at s k ≡ Stop q st)
+  pub last : (st : State) × (rest_at s k ≡ Stop q st)
   pub done : AllDone h (count_at s k)

@@ -34,15 +34,16 @@ StartsLoseNothing = (s : Setup) (h : History) (n w : ℕ) (job : Job) → NoLoss
 abbrev pub SlotsSuffice : Type 0
 SlotsSuffice = (s : Setup) (h : History) (w : ℕ) → Good s h → busy h w ≤ s.slots w
 
--- a task that was started is not done before, nor in flight, and nothing was lost
-pub record StartsOnce (h : History) (n : ℕ) (losses : Type 0) : Type 0 where
+-- the task was neither done nor in flight, and nothing was lost
+pub record IsFirstStart (s : Setup) (h : History) (n : ℕ) : Type 0 where
   pub not_done : outs_in h n ≡ None
   pub not_flying : worker_in h n ≡ None
-  pub none_lost : losses
+  pub losses : NoLoss s h
 
+-- each start is of such a task
 abbrev pub EachStartsOnce : Type 0
 EachStartsOnce = (s : Setup) (h : History) (n w : ℕ) (job : Job) → Good s (started n w job ∷ h)
-    → StartsOnce h n (NoLoss s h)
+    → IsFirstStart s h n
 
 -- what is in flight was called within the frontier, isn't done, and its inputs are there
 abbrev pub FlyingIsOpen : Type 0

@@ -98,6 +98,10 @@ pub fn judge(
         AreLengths mains.now w.closed → IsJudged result (refused_versions first w
         (read_with (λ x. latest x (writes_in table.now)) (params_at idl.now.ops op) args.now)) }
 
+    // It is the first, from the left, that stands against the call.
+    ensures first { result ≡ judged_call (looks_in looks.now) mains.now (read_with
+        (λ x. latest x (writes_in table.now)) (params_at idl.now.ops op) args.now) }
+
     // A file that is named is read as an original, and wasn't looked at.
     ensures unseen { IsUnseen (looks_in looks.now) (read_with
         (λ x. latest x (writes_in table.now)) (params_at idl.now.ops op) args.now) result }
