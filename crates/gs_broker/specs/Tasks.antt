@@ -1,5 +1,5 @@
 -- What the table of tasks and the slab of jobs say.
-use Rattle.std.specs.Prelude.{◌≡◌, ◌≢◌, ℕ, Option, Some, None, ◌==◌, if◌then◌else◌}
+use Rattle.std.specs.Prelude.{◌≡◌, ◌≢◌, ℕ, Option, Some, None, IsSome, ◌==◌, if◌then◌else◌}
 use Rattle.gs_broker.specs.declared.tasks.Line.{Line}
 use Rattle.gs_broker.specs.declared.tasks.Flight.{Flight}
 
@@ -25,3 +25,13 @@ worker_at jobs n (Some k) = worker_of n (jobs k)
 abbrev pub OthersStay : ℕ → (ℕ → Option Flight) → (ℕ → Option Flight) → Type 0
 OthersStay n old new =
     (m : ℕ) → n ≢ m → (key : Option ℕ) → worker_at new m key ≡ worker_at old m key
+
+-- a task in flight, or none is
+abbrev pub IsAnyJob : (ℕ → Option ℕ) → Option ℕ → Type 0
+IsAnyJob job None = (n : ℕ) → job n ≡ None
+IsAnyJob job (Some n) = IsSome (job n)
+
+-- a task in flight whose job is this one, or there is none
+abbrev pub IsJobUnder : (ℕ → Option ℕ) → Option Flight → Option ℕ → Type 0
+IsJobUnder job flight None = (j : Flight) → flight ≡ Some j → job j.n ≡ None
+IsJobUnder job flight (Some n) = IsSome (job n)

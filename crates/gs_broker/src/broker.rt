@@ -42,6 +42,8 @@ impl Broker {
     ghost use Rattle.gs_broker.specs.Broker.{slots_in, takes_in, tries_in, job_in, busy_in, failures_in, lapses_in, is_known, spare_in, usable_in, IsFresh, SameWorkers, SameJobs, workers_in, IsStarted, IsEnded, IsStrandedIn, IsPicked};
     ghost use Rattle.gs_broker.specs.Stranded.{IsLeastStranded};
     ghost use Rattle.gs_broker.specs.Outcome.{IsLoss};
+    ghost use Rattle.gs_broker.specs.Tasks.{IsAnyJob, IsJobUnder};
+    ghost use Rattle.slab.specs.Slab.{get as flight_at};
     ghost use Rattle.gs_types.specs.declared.limits.TheConstants.{TRIES_LIMIT};
 
     /// A broker of these workers: no job is in flight, nothing has failed, and a task is lost at
@@ -86,6 +88,34 @@ impl Broker {
         ensures { result ≡ job_in self.now n }
     {
         worker_at(&self.jobs, n, key_at(&self.tasks, n))
+    }
+
+    // The task in flight whose job stands under the key.
+    fn job_under(&self, key: usize) -> Option<u32>
+        ensures { IsJobUnder (job_in self.now) (flight_at self.now.jobs key) result }
+    {
+        match self.jobs.get(key) {
+            None => None,
+            Some(flight) => {
+                if self.job(flight.n).is_some() {
+                    Some(flight.n)
+                } else {
+                    None
+                }
+            }
+        }
+    }
+
+    /// A task in flight; `None` exactly where none is. It looks at each place of a job once.
+    pub fn any_job(&self) -> Option<u32>
+        ensures { IsAnyJob (job_in self.now) result }
+    {
+        for key in 0..self.jobs.capacity() {
+            if let Some(n) = self.job_under(key) {
+                return Some(n);
+            }
+        }
+        None
     }
 
     /// Task `n`, which is not in flight, starts on worker `w`, which has a free slot. It uses up at

@@ -4,3 +4,4 @@ pub mod Adding
 pub mod Numbering
 pub mod Pushing
 pub mod Places
+pub mod Due

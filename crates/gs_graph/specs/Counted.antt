@@ -16,6 +16,10 @@ ended_in g m = done_at g.done.items m
 unfoldable pub waits_in : Counters → ℕ → ℕ → Bool
 waits_in g m p = has m (after g.next.items p)
 
+-- the tasks that have p as a producer, as often as they have it
+unfoldable pub after_in : Counters → ℕ → List ℕ
+after_in g p = after g.next.items p
+
 -- the task has not finished, and its producers are all finished
 abbrev pub IsDue : (ℕ → ℕ → Bool) → (ℕ → Bool) → ℕ → ℕ → Type 0
 IsDue needs done count m =

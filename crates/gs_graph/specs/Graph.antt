@@ -1,8 +1,8 @@
 -- What a graph says, as plain functions. Tasks are numbered from 1.
-use Rattle.std.specs.Prelude.{◌≡◌, ℕ, zero, suc, ◌<◌, ◌≤◌, Bool, true, false, List, map}
+use Rattle.std.specs.Prelude.{◌≡◌, ℕ, zero, suc, ◌<◌, ◌≤◌, Bool, true, false, List, [], map}
 use Rattle.gs_types.specs.declared.action.Action.{Action}
 use Rattle.gs_graph.specs.Numbers.{has, rises}
-use Rattle.gs_graph.specs.Counted.{size_in, ended_in, waits_in, due_in}
+use Rattle.gs_graph.specs.Counted.{size_in, ended_in, waits_in, due_in, after_in}
 use Rattle.gs_graph.specs.declared.graph.Graph.{Graph}
 
 -- who waits for whom by numbers from 1, where it is told by places from 0
@@ -28,6 +28,11 @@ needs_in g n p = by_number (waits_in g.counters) n p
 unfoldable pub ready_in : Graph → List ℕ
 ready_in g = map suc (due_in g.counters)
 
+-- the tasks that have task n as a producer, as often as they have it
+unfoldable pub followers_in : Graph → ℕ → List ℕ
+followers_in g zero = []
+followers_in g (suc p) = map suc (after_in g.counters p)
+
 -- the actions that were noted, in order
 unfoldable pub actions_in : Graph → List Action
 actions_in g = g.actions
@@ -49,6 +54,10 @@ pub record IsReadyList
 -- the graph lists exactly its ready tasks, by rising number
 abbrev pub ListsReady : Graph → Type 0
 ListsReady g = IsReadyList (needs_in g) (done_in g) (count_in g) (ready_in g)
+
+-- the followers of task n are exactly the tasks that have it as a producer
+abbrev pub ListsFollowers : Graph → ℕ → Type 0
+ListsFollowers g n = (m : ℕ) → has m (followers_in g n) ≡ needs_in g m n
 
 -- both have the same tasks, waiting for the same ones, with the same ones finished
 pub record SameTasks (old new : Graph) : Type 0 where

@@ -1,12 +1,12 @@
 // Tasks from 0 on, with the number of their unfinished producers and the list of their successors.
-#![tactic(auto, unfolding(crate::specs::Counted::size_in, crate::specs::Counted::ended_in, crate::specs::Counted::waits_in, crate::specs::Counted::due_in))]
+#![tactic(auto, unfolding(crate::specs::Counted::size_in, crate::specs::Counted::ended_in, crate::specs::Counted::waits_in, crate::specs::Counted::due_in, crate::specs::Counted::after_in))]
 
 ghost use Rattle.std.specs.Prelude.{◌≡◌, ◌≤◌, ◌<◌, ℕ, length, slice_index, true, vec_capacity};
 ghost use Rattle.gs_graph.specs.Numbers.{has, rises};
 ghost use Rattle.gs_graph.specs.Edges.{after, done_at, open_of, is_due, all_below};
 
-use crate::edges::{open_count, push_edges, push_last};
-use crate::lower::{lower_all, put_if, set_done};
+use crate::edges::{after_at, open_count, push_edges, push_last};
+use crate::lower::{is_done, is_free, lower_all, put_if, set_done};
 use crate::numbers::{item_at, take_out};
 use std::alloc::{AllocError, Global};
 
@@ -37,8 +37,9 @@ pub(crate) struct Counters {
 
 impl Counters {
     ghost use Rattle.std.specs.Prelude.{◌≡◌, ◌≤◌, ◌<◌, ◌+◌, ℕ, length, slice_get, OnOk, OnErr, IfSome, Some, true, false};
+    ghost use Rattle.gs_graph.specs.Numbers.{has};
     ghost use Rattle.gs_graph.specs.Edges.{all_below, done_too, waiting_too};
-    ghost use Rattle.gs_graph.specs.Counted.{size_in, ended_in, waits_in, due_in, ListsDue};
+    ghost use Rattle.gs_graph.specs.Counted.{size_in, ended_in, waits_in, due_in, after_in, ListsDue};
 
     pub(crate) fn new(alloc: Global) -> Counters
         ensures count { size_in result ≡ 0 }
@@ -107,5 +108,36 @@ impl Counters {
         ensures within { IfSome result (λ m. m < size_in self.now) }
     {
         item_at(&self.ready, i)
+    }
+
+    /// Whether the task may run.
+    pub(crate) fn is_due(&self, m: usize) -> bool
+        ensures due { result ≡ has m (due_in self.now) }
+        ensures list { ListsDue self.now }
+    {
+        m < self.missing.len() && is_free(&self.missing, &self.done, m)
+    }
+
+    /// The `i`-th of the tasks that have this one as a producer.
+    pub(crate) fn after_at(&self, p: usize, i: usize) -> Option<usize>
+        ensures item { result ≡ slice_get (after_in self.now p) i }
+        ensures list { (m : ℕ) → has m (after_in self.now p) ≡ waits_in self.now m p }
+        ensures within { IfSome result (λ m. m < size_in self.now) }
+    {
+        after_at(&self.next, p, i)
+    }
+
+    /// Whether the task has finished.
+    pub(crate) fn has_ended(&self, m: usize) -> bool
+        ensures { result ≡ ended_in self.now m }
+    {
+        is_done(&self.done, m)
+    }
+
+    /// How many tasks there are.
+    pub(crate) fn count(&self) -> usize
+        ensures { result ≡ size_in self.now }
+    {
+        self.missing.len()
     }
 }

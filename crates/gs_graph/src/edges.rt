@@ -1,8 +1,9 @@
 // The tasks that wait for each task.
-ghost use Rattle.std.specs.Prelude.{◌≡◌, ◌≤◌, ◌<◌, ◌++◌, ◌∷◌, [], ◌==◌, ℕ, List, length, true, vec_len, vec_capacity, OnOk, OnErr, if◌then◌else◌};
+ghost use Rattle.std.specs.Prelude.{◌≡◌, ◌≤◌, ◌<◌, ◌++◌, ◌∷◌, [], ◌==◌, ℕ, List, length, slice_get, true, vec_len, vec_capacity, OnOk, OnErr, if◌then◌else◌};
 ghost use Rattle.gs_graph.specs.Edges.{after, all_below, ends, open_in, done_at};
 
 use crate::lower::is_done;
+use crate::numbers::item_at;
 use std::alloc::AllocError;
 
 // Task `n` waits for `p` too. On want of memory nothing changes.
@@ -67,6 +68,14 @@ pub(crate) fn push_edges(
         }
     }
     Ok(())
+}
+
+// The `i`-th of the tasks that wait for `p`.
+pub(crate) fn after_at(next: &[Vec<usize>], p: usize, i: usize) -> Option<usize>
+    ensures { result ≡ slice_get (after next.now p) i }
+{
+    let one = next.get(p)?;
+    item_at(one, i)
 }
 
 // How many of these have not finished.

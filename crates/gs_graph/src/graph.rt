@@ -1,5 +1,5 @@
 // The graph of tasks.
-#![tactic(auto, unfolding(crate::specs::Graph::count_in, crate::specs::Graph::done_in, crate::specs::Graph::needs_in, crate::specs::Graph::ready_in, crate::specs::Graph::actions_in))]
+#![tactic(auto, unfolding(crate::specs::Graph::count_in, crate::specs::Graph::done_in, crate::specs::Graph::needs_in, crate::specs::Graph::ready_in, crate::specs::Graph::followers_in, crate::specs::Graph::actions_in))]
 
 ghost use Rattle.std.specs.Prelude.{◌≡◌, ◌<◌, ◌≤◌, ◌-◌, ◌^◌, ℕ, map, All, IfOk};
 ghost use Rattle.gs_graph.specs.Counted.{size_in};
@@ -30,9 +30,10 @@ fn places(alloc: Global, tasks: &[u32]) -> Result<Vec<usize>, AllocError>
 }
 
 impl Graph {
-    ghost use Rattle.std.specs.Prelude.{◌≡◌, ◌<◌, ◌≤◌, ◌+◌, ◌++◌, ◌∷◌, [], ℕ, All, slice_get, OnOk, OnErr, true, false};
+    ghost use Rattle.std.specs.Prelude.{◌≡◌, ◌<◌, ◌≤◌, ◌+◌, ◌++◌, ◌∷◌, [], ℕ, All, IfSome, slice_get, OnOk, OnErr, true, false};
+    ghost use Rattle.gs_graph.specs.Numbers.{has};
     ghost use Rattle.gs_graph.specs.Edges.{done_too, waiting_too};
-    ghost use Rattle.gs_graph.specs.Graph.{count_in, done_in, needs_in, ready_in, actions_in, ListsReady, SameTasks};
+    ghost use Rattle.gs_graph.specs.Graph.{count_in, done_in, needs_in, ready_in, followers_in, actions_in, ListsReady, ListsFollowers, SameTasks};
 
     /// A graph without tasks and actions. It takes no memory.
     pub fn new(alloc: Global) -> Graph
@@ -87,6 +88,45 @@ impl Graph {
             Some(place) => Some(place as u32 + 1),
             None => None,
         }
+    }
+
+    /// Whether task `n` has not finished and its producers are all finished: one that was not added
+    /// is not ready. It takes the time of two look-ups.
+    pub fn is_ready(&self, n: u32) -> bool
+        ensures ready { result ≡ has n (ready_in self.now) }
+        ensures list { ListsReady self.now }
+    {
+        n > 0 && self.counters.is_due(n as usize - 1)
+    }
+
+    /// The `i`-th, from 0, of the tasks that have task `n` as a producer, each as often as it has
+    /// it. `None` exactly past the last of them.
+    pub fn follower(&self, n: u32, i: u32) -> Option<u32>
+        ensures item { result ≡ slice_get (followers_in self.now n) i }
+        ensures list { ListsFollowers self.now n }
+        ensures added { IfSome result (λ m. (0 < m) × (m ≤ count_in self.now)) }
+    {
+        if n == 0 {
+            return None;
+        }
+        match self.counters.after_at(n as usize - 1, i as usize) {
+            Some(m) => Some(m as u32 + 1),
+            None => None,
+        }
+    }
+
+    /// Whether task `n` has finished: one that was not added has not.
+    pub fn is_done(&self, n: u32) -> bool
+        ensures { result ≡ done_in self.now n }
+    {
+        n > 0 && self.counters.has_ended(n as usize - 1)
+    }
+
+    /// How many tasks were added; they have the numbers from 1 to this one.
+    pub fn count(&self) -> u32
+        ensures { result ≡ count_in self.now }
+    {
+        self.counters.count() as u32
     }
 
     /// Notes an action behind the others. On want of memory nothing changes.

@@ -32,7 +32,7 @@ fn take_one(missing: &mut Vec<usize>, s: usize)
     missing[s] -= 1;
 }
 
-fn is_free(missing: &[usize], done: &[bool], s: usize) -> bool
+pub(crate) fn is_free(missing: &[usize], done: &[bool], s: usize) -> bool
     requires { s < length missing.now }
     ensures { result ≡ (not (done_at done.now s) && nat_eq (slice_index missing.now s) 0) }
 {

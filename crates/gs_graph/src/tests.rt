@@ -70,12 +70,16 @@ fn a_task_waits_for_a_producer_that_is_named_twice(rt: HostRuntime) -> Result<()
     graph.add(2, &[1, 1])?;
     graph.note(Action::Read { name: 7 })?;
     graph.note(Action::Barrier)?;
-    assert!(rt; graph.ready_at(0) == Some(1));
-    assert!(rt; graph.ready_at(1).is_none());
+    assert!(rt; graph.count() == 2);
+    assert!(rt; graph.follower(1, 0) == Some(2));
+    assert!(rt; graph.follower(1, 1) == Some(2));
+    assert!(rt; graph.follower(1, 2).is_none());
+    assert!(rt; graph.is_ready(1) && !graph.is_ready(2) && !graph.is_done(1));
     graph.finish(1);
-    assert!(rt; graph.ready_at(0) == Some(2));
+    assert!(rt; graph.is_done(1) && !graph.is_ready(1) && graph.is_ready(2));
     graph.finish(2);
     assert!(rt; graph.ready_at(0).is_none());
+    assert!(rt; !graph.is_ready(0) && !graph.is_done(3) && graph.follower(0, 0).is_none());
     assert!(rt; matches!(graph.actions(), [Action::Read { name: 7 }, Action::Barrier]));
     Ok(())
 }

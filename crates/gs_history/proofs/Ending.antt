@@ -57,7 +57,7 @@ noted_first s x xs m n given outs o is later e = elim (eqb_tells m n) [
       }
 ]
 
-noted_outs : (s : Setup) (xs : List Noting) (h : History) (n : ℕ) (outs : List Value) → AreNoted s xs h → outs_in h n ≡ Some outs → HasNote s xs n outs
+pub noted_outs : (s : Setup) (xs : List Noting) (h : History) (n : ℕ) (outs : List Value) → AreNoted s xs h → outs_in h n ≡ Some outs → HasNote s xs n outs
 noted_outs s [] [] n outs are e = absurd cc
 noted_outs s [] (v ∷ h) n outs are e = absurd are
 noted_outs s (x ∷ xs) [] n outs are e = absurd are

@@ -32,7 +32,7 @@ one_look l first name s o is more true same f =
     subst (IsSeen (first name)) values (subst (λ (x : List ℕ). IsSeen (first x) l.seen) names is)
 one_look l first name s o is more false same f = more f
 
-seen_right : (looks : List Look) (first : Files) (name : List ℕ) (s : Seen) → AreSeen looks first → seen_of looks name ≡ Some s → IsSeen (first name) s
+pub seen_right : (looks : List Look) (first : Files) (name : List ℕ) (s : Seen) → AreSeen looks first → seen_of looks name ≡ Some s → IsSeen (first name) s
 seen_right [] first name s are e = absurd cc
 seen_right (l ∷ looks) first name s are e = one_look l first name s (seen_of looks name) are.0 (λ f. seen_right looks first name s are.1 f) (bytes_eq l.name name) refl e
 

@@ -52,12 +52,12 @@ fn judge_version(looks: &Looks, mains: &[u64], v: Version) -> Judged
     }
 }
 
-// Whether the operation reads a file at a place.
-fn reads_at(idl: &Idl, op: u8, i: usize) -> bool
-    requires { op < length idl.now.ops }
+/// Whether the operation reads a file at a place, from 0. There is none past the operations, or past
+/// its parameters.
+pub fn reads_at(idl: &Idl, op: u8, i: usize) -> bool
     ensures { result ≡ reads_at (params_at idl.now.ops op) i }
 {
-    if i >= idl.param_count(op) as usize {
+    if op >= idl.op_count() || i >= idl.param_count(op) as usize {
         return false;
     }
     let (dir, kind) = idl.param(op, i as u8);
@@ -91,8 +91,6 @@ pub fn judge(
     op: u8,
     args: &[CallArg],
 ) -> Judged
-    requires { op < length idl.now.ops }
-
     // Where the looks and the lengths are right, it is what the sequential run answers.
     ensures answers { (first : Files) (w : World) → AreSeen (looks_in looks.now) first →
         AreLengths mains.now w.closed → IsJudged result (refused_versions first w
@@ -117,7 +115,6 @@ fn judge_all(
     op: u8,
     args: &[CallArg],
 ) -> Judged
-    requires { op < length idl.now.ops }
     ensures { result ≡ judged_call (looks_in looks.now) mains.now (read_with
         (λ x. latest x (writes_in table.now)) (params_at idl.now.ops op) args.now) }
 {

@@ -6,5 +6,5 @@ mod look;
 #[cfg(test)]
 mod tests;
 
-pub use judging::{Judged, judge};
+pub use judging::{Judged, judge, reads_at};
 pub use look::{Looks, Seen};

@@ -1,9 +1,9 @@
 -- How many tasks were never started.
-use Rattle.std.proofs.Common.{◌≡◌, ◌<◌, ◌≤◌, ◌+◌, ℕ, zero, suc, Bool, true, false, refl, sym, ap, ◌∙◌, subst, arith, Option, None, is_some, if◌then◌else◌, inl, inr, ◌⊎◌}
+use Rattle.std.proofs.Common.{◌≡◌, ◌<◌, ◌≤◌, ◌+◌, ℕ, zero, suc, Bool, true, false, refl, sym, ap, ◌∙◌, subst, arith, if◌then◌else◌, inl, inr, ◌⊎◌}
 use Rattle.std.specs.Prelude.{◌==◌}
 use Rattle.std.proofs.lemmas.Bool.{cases_lt}
 use Rattle.std.proofs.lemmas.Bool.Decides.{eqb_tells}
-use Rattle.gs_queue.specs.Listed.{unknown, one_unless}
+use Rattle.gs_queue.specs.Numbered.{unknown, one_unless}
 
 one : (b : Bool) → one_unless b ≤ 1
 one true = omega arith
@@ -12,10 +12,6 @@ one false = omega arith
 pub unknown_most : (known : ℕ → Bool) (n : ℕ) → unknown known n ≤ n
 unknown_most known zero = omega arith
 unknown_most known (suc n) = let h = unknown_most known n in let b = one (known (suc n)) in omega arith
-
-pub unknown_same : (known now : ℕ → Bool) (n : ℕ) → ((m : ℕ) → now m ≡ known m) → unknown now n ≡ unknown known n
-unknown_same known now zero same = refl
-unknown_same known now (suc n) same = let h = unknown_same known now n same in let b = ap one_unless (same (suc n)) in omega arith
 
 unknown_some : (known : ℕ → Bool) (n m : ℕ) → 0 < m → m ≤ n → known m ≡ false → 0 < unknown known n
 unknown_some known zero m pos le e = absurd (omega arith)
@@ -60,17 +56,3 @@ started_spare known now n m was left false is e pos le enough less again = let h
 pub room : (known : ℕ → Bool) (n m was : ℕ) (b : Bool) → known m ≡ b → 0 < m → m ≤ n → unknown known n ≤ was → (0 < was) ⊎ (known m ≡ true)
 room known n m was true is pos le enough = inr is
 room known n m was false is pos le enough = inl (let h = unknown_some known n m pos le is in omega arith)
-
--- ---- jobs after one has ended
-
-pub idle_now : (old new : ℕ → Option ℕ) (n m : ℕ) → ((i : ℕ) → new i ≡ (if n == i then None else old i)) → (n ≡ m) ⊎ (is_some (old m) ≡ false) → is_some (new m) ≡ false
-idle_now old new n m e is = elim (eqb_tells n m) [
-  | inl same ↦ ap is_some (e m ∙ ap (λ (t : Bool). if t then None else old m) same.0)
-  | inr ne ↦ elim is [ inl same ↦ absurd (ne.1 same) | inr idle ↦ ap is_some (e m ∙ ap (λ (t : Bool). if t then None else old m) ne.0) ∙ idle ]
-]
-
-pub was_some : (old new : ℕ → Option ℕ) (n m : ℕ) → ((i : ℕ) → new i ≡ (if n == i then None else old i)) → is_some (new m) ≡ true → is_some (old m) ≡ true
-was_some old new n m e is = elim (eqb_tells n m) [
-  | inl same ↦ let gone : is_some (new m) ≡ false = ap is_some (e m ∙ ap (λ (t : Bool). if t then None else old m) same.0) in absurd (cc)
-  | inr ne ↦ ap is_some (sym (e m ∙ ap (λ (t : Bool). if t then None else old m) ne.0)) ∙ is
-]

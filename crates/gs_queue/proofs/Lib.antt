@@ -1,4 +1,8 @@
 pub mod Rising
-pub mod Listing
+pub mod Places
 pub mod Knowing
+pub mod Leading
+pub mod Entering
+pub mod Leaving
+pub mod Growing
 pub mod Picking

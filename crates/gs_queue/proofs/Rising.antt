@@ -1,24 +1,24 @@
 -- Lists of tasks by rising number.
-use Rattle.std.proofs.Common.{◌≡◌, ◌≢◌, ◌<◌, ◌≤◌, ◌+◌, ℕ, zero, suc, Bool, true, false, refl, ap, List, [], ◌∷◌, ◌++◌, length, arith, Some, nat_lt, if◌then◌else◌}
+use Rattle.std.proofs.Common.{◌≡◌, ◌≢◌, ◌<◌, ◌≤◌, ◌+◌, ℕ, zero, suc, Bool, true, false, refl, ap, List, [], ◌∷◌, length, arith, Some, nat_lt, if◌then◌else◌}
 use Rattle.std.specs.Prelude.{◌&&◌, not, ◌==◌, nat_le}
-use Rattle.std.specs.List.{slice_get, All}
+use Rattle.std.specs.List.{slice_get}
 use Rattle.std.proofs.lemmas.Bool.Decides.{nat_tests}
-use Rattle.gs_queue.specs.Listed.{rises, put_in, without}
+use Rattle.gs_queue.specs.Numbered.{rises, put_in, without}
 use Rattle.gs_broker.specs.declared.choice.Ready.{Ready}
 
-both : (a b : Bool) → (a && b) ≡ true → (a ≡ true) × (b ≡ true)
+pub both : (a b : Bool) → (a && b) ≡ true → (a ≡ true) × (b ≡ true)
 both true true e = (refl, refl)
 both true false e = absurd (cc)
 both false b e = absurd (cc)
 
-and_true : (a b : Bool) → a ≡ true → b ≡ true → (a && b) ≡ true
+pub and_true : (a b : Bool) → a ≡ true → b ≡ true → (a && b) ≡ true
 and_true true b x y = y
 and_true false b x y = absurd (cc)
 
-is_le : (a b : ℕ) → nat_le a b ≡ true → a ≤ b
+pub is_le : (a b : ℕ) → nat_le a b ≡ true → a ≤ b
 is_le a b e = grind (arith, nat_tests)
 
-le_is : (a b : ℕ) → a ≤ b → nat_le a b ≡ true
+pub le_is : (a b : ℕ) → a ≤ b → nat_le a b ≡ true
 le_is a b le = grind (arith, nat_tests)
 
 is_lt : (a b : ℕ) → nat_lt a b ≡ true → a < b
@@ -62,11 +62,6 @@ rises_wider low high more (x ∷ rs) e le = let p = rises_parts low high x rs e 
 rises_lower : (less low high : ℕ) (rs : List Ready) → rises low high rs ≡ true → less ≤ low → rises less high rs ≡ true
 rises_lower less low high [] e le = refl
 rises_lower less low high (x ∷ rs) e le = let p = rises_parts low high x rs e in let a = p.above in rises_of less high x rs (omega arith) p.below p.rest
-
--- a task behind those of lesser numbers
-pub rises_push : (low high : ℕ) (rs : List Ready) (r : Ready) → rises low high rs ≡ true → All (λ (s : Ready). s.n < r.n) rs → low ≤ r.n → r.n ≤ high → rises low high (rs ++ r ∷ []) ≡ true
-rises_push low high [] r e less le most = rises_of low high r [] le most refl
-rises_push low high (x ∷ rs) r e less le most = let p = rises_parts low high x rs e in let lt = less 0 x (omega arith) in rises_of low high x (rs ++ r ∷ []) p.above p.below (rises_push (suc x.n) high rs r p.rest (λ k d lt. less (suc k) d (omega arith)) (omega arith) most)
 
 pub rises_without : (low high n : ℕ) (rs : List Ready) → rises low high rs ≡ true → rises low high (without n rs) ≡ true
 rises_without low high n [] e = refl

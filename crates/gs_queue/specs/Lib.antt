@@ -1,2 +1,4 @@
-pub mod Listed
+pub mod Numbered
+pub mod Fronts
+pub mod Views
 pub mod Queue

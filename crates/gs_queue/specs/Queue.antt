@@ -1,23 +1,23 @@
 -- What a queue says, as plain functions.
-use Rattle.std.specs.Prelude.{◌≡◌, ◌<◌, ◌≤◌, ◌+◌, ◌-◌, ◌==◌, ◌&&◌, nat_lt, ℕ, Bool, List, [], Option, Some, None, if◌then◌else◌}
+use Rattle.std.specs.Prelude.{◌≡◌, ◌<◌, ◌≤◌, ◌+◌, ◌-◌, ◌==◌, ◌&&◌, nat_lt, ℕ, Bool, true, false, Option, Some, None, IsSome, if◌then◌else◌}
 use Rattle.gs_types.specs.declared.limits.TheConstants.{WORKER_FAILURES}
 use Rattle.gs_policy.specs.Cost.{Cost}
 use Rattle.gs_broker.specs.Broker.{workers_in, slots_in, takes_in, tries_in, job_in, busy_in, failures_in, lapses_in}
-use Rattle.gs_broker.specs.Choice.{IsChosen}
+use Rattle.gs_broker.specs.Choice.{before, pair_of, IsTaskInRange}
 use Rattle.gs_broker.specs.Counts.{is_on, IsStranded}
 use Rattle.gs_broker.specs.declared.broker.Broker.{Broker}
 use Rattle.gs_broker.specs.declared.choice.Ready.{Ready}
 use Rattle.gs_broker.specs.declared.workers.Workers.{Workers}
-use Rattle.gs_queue.specs.Listed.{without}
+use Rattle.gs_queue.specs.Views.{size_in, task_in}
 use Rattle.gs_queue.specs.declared.queue.Queue.{Queue}
 
 -- how many tasks there are; they have the numbers from 1 on
 unfoldable pub tasks_of : Queue → ℕ
-tasks_of q = q.count
+tasks_of q = size_in q.listed
 
--- the tasks that may be started, by rising number
-unfoldable pub ready_of : Queue → List Ready
-ready_of q = q.ready.items
+-- the listed task of this number: one that may be started
+unfoldable pub listed_of : Queue → ℕ → Option Ready
+listed_of q n = task_in q.listed n
 
 -- the list of workers
 unfoldable pub workers_of : Queue → Workers
@@ -58,7 +58,7 @@ usable_of q w = nat_lt (busy_of q w) (slots_of q w) && nat_lt (lapses_of q w) WO
 -- no task yet; workers, jobs and what was counted are the broker's
 pub record BeginsWith (broker : Broker) (q : Queue) : Type 0 where
   pub tasks : tasks_of q ≡ 0
-  pub ready : ready_of q ≡ []
+  pub listed : (n : ℕ) → listed_of q n ≡ None
   pub workers : workers_of q ≡ workers_in broker
   pub slots : (w : ℕ) → slots_of q w ≡ slots_in broker w
   pub takes : (w op : ℕ) → takes_of q w op ≡ takes_in broker w op
@@ -87,9 +87,22 @@ pub record SameRun (old new : Queue) : Type 0 where
 abbrev pub IsTask : ℕ → Queue → Type 0
 IsTask n q = (0 < n) × (n ≤ tasks_of q)
 
--- task n is one of the tasks and not in flight, and worker w has a free slot
+-- task n is listed as this one: it has its number, is one of the tasks and not in flight, and is
+-- in the range at which costs are asked for
+pub record IsListed (n : ℕ) (r : Ready) (q : Queue) : Type 0 where
+  pub number : r.n ≡ n
+  pub numbered : IsTask n q
+  pub idle : job_of q n ≡ None
+  pub range : IsTaskInRange r
+
+-- so is each listed task
+abbrev pub AreListed : Queue → Type 0
+AreListed q = (n : ℕ) (r : Ready) → listed_of q n ≡ Some r → IsListed n r q
+
+-- task n is one of the tasks, listed and not in flight, and worker w has a free slot
 pub record MayStart (n w : ℕ) (q : Queue) : Type 0 where
   pub numbered : IsTask n q
+  pub listed : IsSome (listed_of q n)
   pub idle : job_of q n ≡ None
   pub free : busy_of q w < slots_of q w
 
@@ -97,7 +110,7 @@ pub record MayStart (n w : ℕ) (q : Queue) : Type 0 where
 -- counted
 pub record StartsTask (n w : ℕ) (old new : Queue) : Type 0 where
   pub tasks : tasks_of new ≡ tasks_of old
-  pub ready : ready_of new ≡ without n (ready_of old)
+  pub listed : (m : ℕ) → listed_of new m ≡ (if n == m then None else listed_of old m)
   pub workers : SameWorkers old new
   pub jobs : (m : ℕ) → job_of new m ≡ (if n == m then Some w else job_of old m)
   pub busy : (u : ℕ) → busy_of new u ≡ busy_of old u + is_on (Some w) u
@@ -111,10 +124,34 @@ pub record EndsTask (n : ℕ) (old new : Queue) : Type 0 where
   pub jobs : (m : ℕ) → job_of new m ≡ (if n == m then None else job_of old m)
   pub busy : (u : ℕ) → busy_of new u ≡ busy_of old u - is_on (job_of old n) u
 
--- the listed task and the usable worker that cost least, or there are none
+-- task n is listed, worker w takes it and is usable, and no other such pair is before this one
+pub record IsLeastPairIn (cost : Cost) (q : Queue) (n w : ℕ) : Type 0 where
+  pub task : Ready
+  pub listed : listed_of q n ≡ Some task
+  pub taken : takes_of q w task.op ≡ true
+  pub usable : usable_of q w ≡ true
+  pub least : (m u : ℕ) (r : Ready) → listed_of q m ≡ Some r → takes_of q u r.op ≡ true →
+      usable_of q u ≡ true → before (pair_of cost u r) (pair_of cost w task) ≡ false
+
+-- the listed task and the usable worker that takes it that cost least, or there are none
 abbrev pub IsLeastStart : Cost → Queue → Option (ℕ × ℕ) → Type 0
-IsLeastStart cost q start = IsChosen cost (takes_of q) (usable_of q) (ready_of q) start
+IsLeastStart cost q None =
+    (n w : ℕ) (r : Ready) → listed_of q n ≡ Some r → takes_of q w r.op ≡ true →
+    usable_of q w ≡ true → ⊥
+IsLeastStart cost q (Some p) = IsLeastPairIn cost q p.0 p.1
 
 -- each worker that takes the operation has failed too often
 abbrev pub IsStrandedIn : Queue → ℕ → Type 0
 IsStrandedIn q op = IsStranded (takes_of q) (lapses_of q) op
+
+-- task n is listed and stranded, and no listed task before it is
+pub record IsLeastStrandedIn (q : Queue) (n : ℕ) : Type 0 where
+  pub task : Ready
+  pub listed : listed_of q n ≡ Some task
+  pub stranded : IsStrandedIn q task.op
+  pub least : (m : ℕ) (r : Ready) → listed_of q m ≡ Some r → IsStrandedIn q r.op → n ≤ m
+
+-- the least listed task that is stranded, or there is none
+abbrev pub IsNoWorker : Queue → Option ℕ → Type 0
+IsNoWorker q None = (n : ℕ) (r : Ready) → listed_of q n ≡ Some r → IsStrandedIn q r.op → ⊥
+IsNoWorker q (Some n) = IsLeastStrandedIn q n

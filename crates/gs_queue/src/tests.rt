@@ -1,8 +1,8 @@
 // Ten thousand tasks over four workers of one slot.
-ghost use Rattle.std.specs.Prelude.{◌≡◌, ◌<◌, ◌≤◌, ◌+◌, ◌^◌, ℕ, [], None};
+ghost use Rattle.std.specs.Prelude.{◌≡◌, ◌<◌, ◌≤◌, ◌+◌, ◌^◌, ℕ, None};
 ghost use Rattle.gs_policy.specs.Facts.{AreFacts, IsCallable, Answers};
 ghost use Rattle.gs_broker.specs.Choice.{IsTaskInRange};
-ghost use Rattle.gs_queue.specs.Queue.{tasks_of, ready_of, job_of};
+ghost use Rattle.gs_queue.specs.Queue.{tasks_of, listed_of, job_of};
 
 use crate::Queue;
 use gs_broker::{Broker, Loss, Ready, Workers};
@@ -16,26 +16,31 @@ const LIST: &[u8] = b"a 1 p *\nb 1 p *\nc 1 p *\nd 1 p *\n";
 
 const WORKERS: u32 = 4;
 
+const KINDS: u32 = 7;
+
 const TASKS: u32 = 10_000;
 
-const FINISHED: u32 = 100;
+const FINISHED: u32 = 9_900;
 
+// Tasks of a few lengths, side by side.
 fn task(n: u32) -> Ready
     ensures range { IsTaskInRange result }
     ensures number { result.n ≡ n }
 {
-    Ready { n, op: 0, bytes: 0 }
+    Ready {
+        n,
+        op: 0,
+        bytes: (n % KINDS) as u64,
+    }
 }
 
 // So many tasks, each listed.
 fn fill(queue: &mut Queue, count: u32) -> Result<(), NoMemory>
     requires tasks { tasks_of queue.old ≡ 0 }
-    requires ready { ready_of queue.old ≡ [] }
-    requires idle { (n : ℕ) → job_of queue.old n ≡ None }
 {
     for n in 0..count {
         queue.grow()?;
-        queue.push(task(n + 1));
+        queue.list(task(n + 1));
     }
     Ok(())
 }
@@ -69,7 +74,7 @@ fn start_on_each<F: Prices, C: CostLaw>(p: &Policy<F, C>, queue: &mut Queue) -> 
 fn fail_each(queue: &mut Queue, are_lost: bool) -> bool {
     for i in 0..WORKERS {
         let n = FINISHED + 1 + i;
-        if queue.job(n) != Some(i) {
+        if queue.job(n) != Some(i) || queue.is_listed(n) {
             return false;
         }
         if (queue.failed(task(n)) == Loss::Task { n }) != are_lost {
@@ -82,7 +87,7 @@ fn fail_each(queue: &mut Queue, are_lost: bool) -> bool {
 // In how many rounds each worker was given the same task, and it failed.
 fn rounds<F: Prices, C: CostLaw>(p: &Policy<F, C>, queue: &mut Queue) -> u32 {
     for round in 0..TASKS {
-        if !start_on_each(p, queue) || !fail_each(queue, round == 2) {
+        if !start_on_each(p, queue) || queue.any_job().is_none() || !fail_each(queue, round == 2) {
             return round;
         }
     }
@@ -121,11 +126,12 @@ fn tasks_come_in_order_and_come_back_until_their_workers_are_lost(
     fill(&mut queue, TASKS)?;
     assert!(rt; queue.count() == TASKS);
     assert!(rt; queue.workers().count() == WORKERS);
+    assert!(rt; queue.is_listed(TASKS));
+    assert!(rt; !queue.is_listed(TASKS + 1));
     assert!(rt; queue.no_worker().is_none());
     assert!(rt; finish_and_fail_for_nothing(&mut queue) == (FINISHED, 5));
     assert!(rt; queue.no_worker() == Some(FINISHED + 1));
     assert!(rt; queue.job(FINISHED + 1).is_none());
-    queue.clear();
-    assert!(rt; queue.no_worker().is_none());
+    assert!(rt; queue.any_job().is_none());
     Ok(())
 }

@@ -1,5 +1,5 @@
 use Rattle.std.proofs.Common.{◌≡◌, ◌++◌, take, drop}
-use Rattle.gs_queue.specs.Listed.{put_in}
+use Rattle.gs_queue.specs.Numbered.{put_in}
 use Rattle.gs_broker.specs.declared.choice.Ready.{Ready}
 use Rattle.gs_queue.proofs.place.place_of.Given as goal
 
