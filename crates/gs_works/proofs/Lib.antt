@@ -1,0 +1,5 @@
+pub mod Standing
+pub mod Listing
+pub mod Choosing
+pub mod Stranding
+pub mod Losing
