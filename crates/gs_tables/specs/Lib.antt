@@ -1,0 +1,11 @@
+pub mod Outs
+pub mod Rows
+pub mod Noted
+pub mod Written
+pub mod Marks
+pub mod Sources
+pub mod Lengths
+pub mod Table
+pub mod Holds
+pub mod Asked
+pub mod Starts
