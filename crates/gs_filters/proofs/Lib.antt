@@ -1,0 +1,4 @@
+pub mod Calls
+pub mod Digests
+pub mod Insides
+pub mod Texts

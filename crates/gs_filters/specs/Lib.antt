@@ -1,0 +1,4 @@
+pub mod Filters
+pub mod Inside
+pub mod Lawful
+pub mod Operations

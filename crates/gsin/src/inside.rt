@@ -1,0 +1,75 @@
+// The top call over built-in operations.
+ghost use Rattle.std.specs.Prelude.{◌≡◌, ◌⊎◌, ◌++◌, ℕ, List, map, Result};
+ghost use Rattle.std.specs.String.{string_bytes};
+ghost use Rattle.gs_types.specs.Counts.{Rises};
+ghost use Rattle.gs_idl.specs.Interface.{Interface};
+ghost use Rattle.gs_tree.specs.Program.{Program};
+ghost use Rattle.gs_form.specs.declared.worker.Worker.{Worker};
+ghost use Rattle.gs_talk.specs.declared.question.Question as question;
+ghost use Rattle.gs_talk.specs.Seq.{EndsIn};
+ghost use Rattle.gs_site.specs.Link.{IsIdle};
+ghost use Rattle.gs_site.specs.Site.{disk_of, link_of};
+ghost use Rattle.gs_filters.specs.Filters.{filters};
+ghost use Rattle.gs_filters.specs.Inside.{IsTold, jobs_of, faults_of};
+ghost use Rattle.gs_run.specs.Asked.{Wish, Asks, IsNoRun, IsNothing};
+ghost use Rattle.gs_run.specs.Checking.{HoldsBoth};
+ghost use Rattle.gs_run.specs.Did.{Did};
+ghost use Rattle.gs_run.specs.Ran.{run_in, IsStatusOf};
+ghost use Rattle.gs_run.specs.Served.{Served};
+ghost use Rattle.gs_run.specs.Stop.{status_of, message_of};
+ghost use Rattle.gs_run.specs.Words.{IsCheck, IsRun};
+ghost use Rattle.gs_run.specs.declared.stop.Stop.{Stop};
+
+use gs_disk::Disk;
+use gs_filters::InsideLink;
+use gs_run::gs;
+use gs_site::Site;
+use gs_types::Sink;
+use std::alloc::Global;
+
+/// `gs` over built-in operations, on a site with no job in flight, which it leaves with none: its
+/// words, statuses, lines and promises (`did`, `checks`), under the law of the operations. Where the
+/// sequential run under that law ends, and neither the disk's nor the output's count of faults
+/// rises, the status is that of its end: 0, 7 for a fault of the program, 8 where the fuel ran out;
+/// or 12, for want of memory. Nothing is assumed of commands.
+pub fn gs_inside<D: Disk, O: Sink, E: Sink>(
+    alloc: Global,
+    words: &Vec<String>,
+    site: &mut Site<D, InsideLink>,
+    out: &mut O,
+    err: &mut E,
+) -> u8
+    requires idle { IsIdle (jobs_of (link_of site.old)) }
+    ensures idle { IsIdle (jobs_of (link_of site.new)) }
+    ensures did { (wish : Wish) × (answer : Result Unit Stop)
+        × Asks (map string_bytes words.now.items) wish × (result ≡ status_of answer)
+        × Did D.tells O.tells (D.state (disk_of site.old)) (D.state (disk_of site.new)) filters
+        (IsTold (link_of site.old)) (IsTold (link_of site.new))
+        (faults_of (link_of site.old)) (faults_of (link_of site.new))
+        (O.faults out.old) (O.faults out.new) (O.written out.old) (O.written out.new) wish answer
+        × (E.tells → (Rises (E.faults err.old) (E.faults err.new) → ⊥)
+        → E.written err.new ≡ E.written err.old ++ message_of answer)
+        × (IsNoRun wish → link_of site.new ≡ link_of site.old)
+        × (IsNothing wish → (disk_of site.new ≡ disk_of site.old) × (out.new ≡ out.old)) }
+
+    // A run that ends, and no fault of disk and output: its status, or want of memory.
+    ensures complete { D.tells → (idl program workers : List ℕ)
+        → IsRun (map string_bytes words.now.items) idl program workers
+        → (i : Interface) (p : Program) (worker : Worker)
+        → Served (D.state (disk_of site.old)).folder idl program workers i p worker
+        → (k : ℕ) (q : question.Question)
+        → EndsIn (run_in idl program i p filters (D.state (disk_of site.old)).folder) k q
+        → (Rises (D.state (disk_of site.old)).faults (D.state (disk_of site.new)).faults → ⊥)
+        → (Rises (O.faults out.old) (O.faults out.new) → ⊥)
+        → IsStatusOf q result ⊎ (result ≡ 12) }
+
+    // The same of a check.
+    ensures checks { D.tells → (idl program : List ℕ)
+        → IsCheck (map string_bytes words.now.items) idl program
+        → HoldsBoth (D.state (disk_of site.old)).folder idl program
+        → (Rises (D.state (disk_of site.old)).faults (D.state (disk_of site.new)).faults → ⊥)
+        → (Rises (O.faults out.old) (O.faults out.new) → ⊥)
+        → (result ≡ 0) ⊎ (result ≡ 12) }
+{
+    gs(alloc, words, site, out, err)
+}
