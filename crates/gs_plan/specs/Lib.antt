@@ -1,0 +1,14 @@
+pub mod Durations
+pub mod Reading
+pub mod Actions
+pub mod Fits
+pub mod Keys
+pub mod Sums
+pub mod Schedule
+pub mod Ties
+pub mod State
+pub mod Chain
+pub mod Scan
+pub mod Planned
+pub mod Text
+pub mod Laws
