@@ -1,0 +1,4 @@
+pub mod Pieces
+pub mod Generator
+pub mod Report
+pub mod Laws
