@@ -1,5 +1,5 @@
 -- The task that a question called.
-use Rattle.std.proofs.Common.{◌≡◌, ◌<◌, ◌≤◌, ◌+◌, ◌⊎◌, ℕ, zero, suc, Bool, true, false, refl, sym, ap, ◌∙◌, subst, List, length, arith, Option, Some, None, IsSome, inl, inr, ◌∷◌, []}
+use Rattle.std.proofs.Common.{◌≡◌, ◌<◌, ◌≤◌, ◌+◌, ◌⊎◌, ℕ, suc, refl, sym, ap, ◌∙◌, subst, length, arith, Some, None, IsSome, inl, inr}
 use Rattle.std.proofs.lemmas.List.{length-append}
 use Rattle.gs_types.specs.History.{History, worker_in}
 use Rattle.gs_broker.specs.declared.choice.Ready.{Ready}
@@ -9,12 +9,12 @@ use Rattle.gs_talk.specs.Seq.{Task, task_at, seq}
 use Rattle.gs_talk.specs.Actions.{DependsOn}
 use Rattle.gs_history.specs.Setup.{Setup, world_at, count_at}
 use Rattle.gs_history.specs.Frontier.{IsDone}
-use Rattle.gs_history.specs.Ready.{IsOpen, IsReady}
+use Rattle.gs_history.specs.Ready.{IsOpen}
 use Rattle.gs_history.proofs.Called.{next_adds}
 use Rattle.gs_tables.specs.Holds.{Holds}
-use Rattle.gs_tables.specs.Starts.{AreSmall, IsOpenSaid, IsEntry as IsTableEntry}
+use Rattle.gs_tables.specs.Starts.{AreSmall, IsEntry as IsTableEntry}
 use Rattle.gs_tables.specs.declared.tables.Tables.{Tables}
-use Rattle.gs_works.specs.Works.{Works, Lists, SameList, ListsOneMore, IsReadyAs}
+use Rattle.gs_works.specs.Works.{Works, Lists, SameList, ListsOneMore}
 use Rattle.gs_works.proofs.Standing.{same_works}
 use Rattle.gs_works.proofs.Listing.{same_lists, none_called, ready_called_now, waiting_called, task_there, task_by}
 use Rattle.gs_core.specs.Core.{Bears}

@@ -1,8 +1,6 @@
 -- Before the first question.
-use Rattle.std.proofs.Common.{◌≡◌, ◌≤◌, ℕ, refl, sym, ap, ◌∙◌, Option, Some, None, IsSome, zero}
-use Rattle.gs_broker.specs.Listed.{program_in}
+use Rattle.std.proofs.Common.{◌≡◌, ℕ, refl, sym, ◌∙◌, Option, Some, None, IsSome}
 use Rattle.gs_broker.specs.declared.broker.Broker.{Broker}
-use Rattle.gs_broker.specs.declared.workers.Workers.{Workers}
 use Rattle.gs_types.specs.History.{History, worker_in}
 use Rattle.gs_queue.specs.Queue.{BeginsWith}
 use Rattle.gs_queue.specs.declared.queue.Queue.{Queue}

@@ -1,5 +1,5 @@
 -- The end of a write.
-use Rattle.std.proofs.Common.{◌≡◌, ◌≤◌, ◌+◌, ◌∷◌, [], ◌++◌, ℕ, refl, sym, ap, ◌∙◌, subst, List, Option, Some, None, length, arith, Result, Ok, Err, IfOk}
+use Rattle.std.proofs.Common.{◌≡◌, ◌+◌, ◌∷◌, [], ◌++◌, ℕ, refl, sym, ap, ◌∙◌, subst, List, Option, Some, None, length, arith, Result, Ok, Err, IfOk}
 use Rattle.std.proofs.lemmas.List.{length-append, length-map}
 use Rattle.gs_types.specs.History.{History}
 use Rattle.gs_talk.specs.declared.question.Question.{Question}
@@ -7,7 +7,7 @@ use Rattle.gs_talk.specs.declared.question.Question.TheVariants as q
 use Rattle.gs_talk.specs.declared.question.Answer.{Answer}
 use Rattle.gs_talk.specs.Talk.{Dialogue, State, Ask}
 use Rattle.gs_main.specs.Talking.{Next, Asked, a_word}
-use Rattle.gs_history.specs.Setup.{Setup, world_at, rest_at}
+use Rattle.gs_history.specs.Setup.{Setup, world_at}
 use Rattle.gs_tables.specs.Holds.{Holds}
 use Rattle.gs_tables.specs.Table.{mains_in, looked_in}
 use Rattle.gs_tables.specs.declared.tables.Tables.{Tables}

@@ -1,11 +1,10 @@
 -- The question that is due.
-use Rattle.std.proofs.Common.{◌≡◌, ◌≤◌, ◌+◌, ℕ, refl, sym, ap, ◌∙◌, subst, List, Option, Some, None, length, []}
+use Rattle.std.proofs.Common.{◌≡◌, ◌≤◌, ◌+◌, ℕ, sym, ap, ◌∙◌, subst, Option, Some, None, length}
 use Rattle.gs_types.specs.History.{History}
 use Rattle.gs_queue.specs.declared.queue.Queue.{Queue}
 use Rattle.gs_talk.specs.declared.question.Question.{Question}
 use Rattle.gs_talk.specs.declared.question.Question.TheVariants as q
-use Rattle.gs_talk.specs.Talk.{Dialogue, State, Given}
-use Rattle.gs_talk.specs.Seq.{Files}
+use Rattle.gs_talk.specs.Talk.{Dialogue, State}
 use Rattle.gs_idl.specs.Interface.{Interface}
 use Rattle.gs_main.specs.Talking.{Next, Asked, Talking, KeepsGiven}
 use Rattle.gs_main.specs.Shown.{talking}

@@ -1,6 +1,5 @@
 -- How far the program goes.
-use Rattle.std.proofs.Common.{◌≡◌, ◌≤◌, ◌<◌, ◌∙◌, ℕ, suc, refl, inl, inr, arith, List}
-use Rattle.gs_looks.specs.declared.look.Look.{Look}
+use Rattle.std.proofs.Common.{◌≡◌, ◌∙◌, ℕ, refl, inl, inr}
 use Rattle.gs_tables.specs.Table.{looked_in}
 use Rattle.gs_core.specs.Stages.{IsAnswered, ahead}
 use Rattle.gs_core.specs.Core.{IsLoadOnce, IsSaveOnce, IsOnce, KeptLooks}

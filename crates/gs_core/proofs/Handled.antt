@@ -1,14 +1,11 @@
 -- What a question's handler leaves.
-use Rattle.std.proofs.Common.{◌≡◌, ◌≤◌, ◌<◌, ◌+◌, ◌∷◌, [], ◌++◌, ℕ, refl, sym, ap, ◌∙◌, subst, List, Option, Some, None, IsSome, length, arith}
+use Rattle.std.proofs.Common.{◌≡◌, ◌≤◌, ◌+◌, ℕ, sym, ap, ◌∙◌, subst, List, Option, length}
 use Rattle.gs_types.specs.History.{History}
-use Rattle.gs_looks.specs.declared.look.Look.{Look}
-use Rattle.gs_queue.specs.declared.queue.Queue.{Queue}
 use Rattle.gs_talk.specs.declared.question.Question.{Question}
 use Rattle.gs_talk.specs.declared.question.Answer.{Answer}
 use Rattle.gs_talk.specs.Talk.{Dialogue, Ask, Stop, State}
-use Rattle.gs_main.specs.Talking.{Next}
 use Rattle.gs_main.specs.Shown.{talking}
-use Rattle.gs_history.specs.Setup.{Setup, rest_at, count_at}
+use Rattle.gs_history.specs.Setup.{Setup, rest_at}
 use Rattle.gs_history.specs.Frontier.{MayAnswer, MayGoOn, IsFrontier}
 use Rattle.gs_tables.specs.Asked.{HasGone}
 use Rattle.gs_tables.specs.Holds.{Holds}

@@ -16,3 +16,4 @@ pub mod Closing
 pub mod Dues
 pub mod Going
 pub mod Beginnings
+mod Leaving

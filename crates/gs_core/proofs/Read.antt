@@ -1,5 +1,5 @@
 -- What was read answers the opening of a file.
-use Rattle.std.proofs.Common.{◌≡◌, ◌≤◌, ℕ, refl, sym, ap, ◌∙◌, subst, List, Option, Some, None, Bool, true, false, nat_le, nat_lt, length, arith, if◌then◌else◌, ◌<◌, le-leb}
+use Rattle.std.proofs.Common.{◌≡◌, ℕ, sym, ap, ◌∙◌, subst, List, Option, Some, Bool, false, nat_le, length, arith, if◌then◌else◌, ◌<◌, le-leb}
 use Rattle.gs_types.specs.declared.limits.TheConstants.{FILE_LIMIT}
 use Rattle.gs_types.specs.History.{History}
 use Rattle.gs_tree.specs.declared.tree.Mode.{Mode}
@@ -7,7 +7,7 @@ use Rattle.gs_talk.specs.declared.question.Question.TheVariants as q
 use Rattle.gs_talk.specs.declared.question.Answer.{Answer}
 use Rattle.gs_talk.specs.declared.question.Answer.TheVariants as said
 use Rattle.gs_talk.specs.Talk.{Dialogue, State, Ask}
-use Rattle.gs_talk.specs.Seq.{Content, Known, opened, reply}
+use Rattle.gs_talk.specs.Seq.{Content, opened}
 use Rattle.gs_history.specs.Setup.{Setup, world_at, rest_at}
 use Rattle.gs_history.specs.Frontier.{MayGoOn}
 use Rattle.gs_tables.specs.Asked.{IsDueAnswer}

@@ -1,17 +1,15 @@
 -- Where a core rests.
-use Rattle.std.proofs.Common.{◌≡◌, ◌≤◌, ◌<◌, ◌+◌, ◌∷◌, [], ◌++◌, ℕ, refl, sym, ap, ◌∙◌, subst, List, Option, Some, None, IsSome, length, arith}
-use Rattle.gs_idl.specs.Interface.{params_at}
+use Rattle.std.proofs.Common.{◌≡◌, ℕ, refl, sym, ap, ◌∙◌, subst, List, Option, Some, None, IsSome}
 use Rattle.gs_types.specs.declared.note.Version.{Version}
 use Rattle.gs_types.specs.History.{History}
 use Rattle.gs_talk.specs.declared.question.Question.{Question}
 use Rattle.gs_talk.specs.declared.question.Question.TheVariants as q
 use Rattle.gs_talk.specs.Talk.{Dialogue, Done, Ask, Stop}
 use Rattle.gs_talk.specs.Seq.{Content}
-use Rattle.gs_talk_laws.specs.Versions.{latest, writings, version_value}
+use Rattle.gs_talk_laws.specs.Versions.{version_value}
 use Rattle.gs_talk_laws.proofs.Stays.{files_are_versions}
 use Rattle.gs_looks.specs.declared.look.Look.{Look}
 use Rattle.gs_looks.specs.declared.look.Seen.{Seen}
-use Rattle.gs_looks.specs.Looked.{looked}
 use Rattle.gs_history.specs.Setup.{Setup, world_at, rest_at}
 use Rattle.gs_works.specs.Losing.{Before}
 use Rattle.gs_works.specs.Works.{Works, Lists}

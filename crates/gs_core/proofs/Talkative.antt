@@ -1,9 +1,9 @@
 -- A program and its question.
-use Rattle.std.proofs.Common.{◌≡◌, ℕ, refl, sym, ap, ◌∙◌, subst, Option, Some, None}
+use Rattle.std.proofs.Common.{◌≡◌, refl, Some, None}
 use Rattle.gs_talk.specs.declared.question.Question.{Question}
 use Rattle.gs_talk.specs.declared.question.Question.TheVariants as q
 use Rattle.gs_talk.specs.declared.question.Answer.{Answer}
-use Rattle.gs_talk.specs.Talk.{State, Dialogue, Done, Ask, Stop}
+use Rattle.gs_talk.specs.Talk.{State, Dialogue, Ask, Stop}
 use Rattle.gs_main.specs.Talking.{Next, Goes, Awaits, Failed, Wanted, wanted, Asked}
 use Rattle.gs_core.specs.Talker.{IsLike}
 

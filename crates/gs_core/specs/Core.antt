@@ -7,7 +7,6 @@ use Rattle.gs_queue.specs.Queue.{tasks_of, job_of, workers_of}
 use Rattle.gs_queue.specs.declared.queue.Queue.{Queue}
 use Rattle.gs_talk.specs.declared.question.Question.{Question}
 use Rattle.gs_talk.specs.declared.question.Question.TheVariants as q
-use Rattle.gs_talk.specs.Talk.{Dialogue}
 use Rattle.gs_talk.specs.Seq.{Task}
 use Rattle.gs_main.specs.Talking.{Talking}
 use Rattle.gs_main.specs.Shown.{talking}
@@ -20,7 +19,7 @@ use Rattle.gs_history.specs.Good.{IsDue, IsQuiet}
 use Rattle.gs_history.specs.Losses.{TaskLost, WorkersLost, NoLoss, IsLoss}
 use Rattle.gs_tables.specs.Holds.{Holds}
 use Rattle.gs_tables.specs.Starts.{Starts, AreSmall}
-use Rattle.gs_tables.specs.Table.{mains_in, looked_in}
+use Rattle.gs_tables.specs.Table.{looked_in}
 use Rattle.gs_tables.specs.declared.tables.Tables.{Tables}
 use Rattle.gs_works.specs.Works.{Works, Lists}
 use Rattle.gs_works.specs.Losing.{Before}

@@ -1,5 +1,5 @@
 -- What is given up.
-use Rattle.std.specs.Prelude.{◌≡◌, ℕ, Option, Some, None}
+use Rattle.std.specs.Prelude.{ℕ, Option, Some, None}
 use Rattle.gs_broker.specs.declared.outcome.Loss.{Loss as Outcome}
 use Rattle.gs_broker.specs.declared.outcome.Loss.TheVariants as outcome
 use Rattle.gs_types.specs.History.{History}

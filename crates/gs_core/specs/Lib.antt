@@ -6,3 +6,4 @@ pub mod Verdicts
 pub mod Turns
 pub mod Freed
 pub mod Beginning
+pub mod Gate

@@ -1,9 +1,8 @@
 -- What is needed from the disk.
-use Rattle.std.specs.Prelude.{◌≡◌, ℕ, ◌+◌, ◌<◌, ◌≤◌, List, length, Option, Some, None, IsSome, ⊤}
+use Rattle.std.specs.Prelude.{◌≡◌, ℕ, ◌+◌, ◌<◌, ◌≤◌, List, length, Option, Some, None, ⊤}
 use Rattle.gs_idl.specs.Interface.{params_at}
 use Rattle.gs_types.specs.declared.limits.TheConstants.{FILE_LIMIT}
 use Rattle.gs_types.specs.declared.note.Version.{Version}
-use Rattle.gs_types.specs.History.{History}
 use Rattle.gs_looks.specs.declared.look.Look.{Look}
 use Rattle.gs_looks.specs.declared.look.Seen.{Seen}
 use Rattle.gs_looks.specs.Looked.{IsSeen, seen_of}
@@ -13,8 +12,7 @@ use Rattle.gs_talk.specs.declared.question.Question.TheVariants as q
 use Rattle.gs_talk.specs.Talk.{Dialogue, Done, Ask, Stop}
 use Rattle.gs_talk.specs.Seq.{Content, Known, Files}
 use Rattle.gs_talk_laws.specs.Versions.{latest, writings, read_by}
-use Rattle.gs_history.specs.Setup.{Setup, world_at, rest_at}
-use Rattle.gs_history.specs.Frontier.{MayGoOn}
+use Rattle.gs_history.specs.Setup.{Setup, world_at}
 use Rattle.gs_tables.specs.Asked.{IsKept}
 use Rattle.gs_core.specs.declared.stage.Step.{Step}
 use Rattle.gs_core.specs.declared.stage.Step.TheVariants as step
@@ -110,7 +108,8 @@ ahead stage.Settled = 0
 -- what was read is the content
 abbrev pub IsLoaded : Option Content → Loaded → Type 0
 IsLoaded c loaded.Absent = c ≡ None
-IsLoaded c loaded.TooLong = (bytes : List ℕ) × (c ≡ Some (Known bytes)) × (FILE_LIMIT < length bytes)
+IsLoaded c loaded.TooLong =
+    (bytes : List ℕ) × (c ≡ Some (Known bytes)) × (FILE_LIMIT < length bytes)
 IsLoaded c (loaded.Bytes bytes) = (c ≡ Some (Known bytes)) × (length bytes ≤ FILE_LIMIT)
 
 -- it is of the file that the program opens

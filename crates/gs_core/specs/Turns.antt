@@ -1,20 +1,18 @@
 -- One turn of the machine: the program is asked, and its question is answered or put back.
-use Rattle.std.specs.Prelude.{◌≡◌, ℕ, suc, ◌+◌, ◌≤◌, List, [], length, Option, Some, None, IfSome, IsSome}
+use Rattle.std.specs.Prelude.{◌≡◌, ℕ, ◌+◌, ◌≤◌, List, [], length, Option, Some, None, IsSome}
 use Rattle.std.specs.Bool.{⊤}
 use Rattle.gs_types.specs.History.{History, worker_in}
 use Rattle.gs_queue.specs.Queue.{tasks_of}
-use Rattle.gs_queue.specs.declared.queue.Queue.{Queue}
 use Rattle.gs_talk.specs.declared.question.Question.{Question}
 use Rattle.gs_talk.specs.declared.question.Answer.{Answer}
 use Rattle.gs_talk.specs.declared.question.Answer.TheVariants as answer
 use Rattle.gs_talk.specs.Talk.{Dialogue}
-use Rattle.gs_main.specs.Talking.{Talking, Asked, Wanted, Next, Awaits}
+use Rattle.gs_main.specs.Talking.{Talking, Asked, Wanted, Awaits}
 use Rattle.gs_main.specs.Shown.{talking}
 use Rattle.gs_looks.specs.declared.look.Look.{Look}
 use Rattle.gs_history.specs.Setup.{Setup, count_at}
 use Rattle.gs_tables.specs.Asked.{HasGone}
 use Rattle.gs_tables.specs.Table.{mains_in, looked_in}
-use Rattle.gs_tables.specs.declared.tables.Tables.{Tables}
 use Rattle.gs_works.specs.Works.{Works, Lists}
 use Rattle.gs_works.specs.Losing.{Before}
 use Rattle.gs_core.specs.Talker.{IsLike, IsAwake}
@@ -112,7 +110,8 @@ IsOnceStep (Some x) g = IsOnce x g
 -- what a turn changes, whatever the core stands for; g is where the last step stood
 pub record IsTurn (g : Stage) (old new : Core) (x : Option Step) : Type 0 where
   pub jobs : SameJobs old new
-  pub mains : length (mains_in new.tables) + ahead new.stage ≤ length (mains_in old.tables) + ahead g
+  pub mains : length (mains_in new.tables) + ahead new.stage
+      ≤ length (mains_in old.tables) + ahead g
   pub looks : looked_in new.tables ≡ looks_after x (looked_in old.tables)
   pub stage : IsStageAfter x new.stage
   pub asked : IsSome x → IsSome new.asked

@@ -104,7 +104,8 @@ impl Core {
         requires opened { self.old.stage ≡ stage.Open }
         ensures turn { (g : stages.Stage) → IfOk result (IsTurn g self.old self.new) }
         ensures turned { (s : Setup) (k : ℕ) (h : History) → Turning self.old s k h →
-            Asks self.old (q.Call op line args) (rest_at s k) → IfOk result (Turned self.new s k h) }
+            Asks self.old (q.Call op line args) (rest_at s k) →
+            IfOk result (Turned self.new s k h) }
     {
         match self.tables.call(self.main.idl(), op, args)? {
             Called::Went => self.answer(Answer::Went),
@@ -229,7 +230,8 @@ impl Core {
         ensures turn { (g : stages.Stage) → saved_in g ≡ Some len →
             IfOk result (IsTurn g self.old self.new) }
         ensures turned { (s : Setup) (k : ℕ) (h : History) (x : question.Question) →
-            Turning self.old s k h → IsLike (q.CloseFile name []) x → Asks self.old x (rest_at s k) →
+            Turning self.old s k h → IsLike (q.CloseFile name []) x →
+            Asks self.old x (rest_at s k) →
             LengthOf len (rest_at s k) → IfOk result (Turned self.new s k h) }
     {
         self.tables.closed(&name, len)?;

@@ -2,6 +2,7 @@
 //! and given up.
 #![tactic(auto)]
 
+mod gating;
 mod handling;
 mod listing;
 mod losing;

@@ -12,8 +12,8 @@ use gs_queue::Queue;
 use gs_tables::Tables;
 use gs_types::NoMemory;
 
-/// The task that the last question called, if it called one, is one of the queue's from then on, and
-/// is listed where it may start. The only error is want of memory.
+/// The task that the last question called, if it called one, is one of the queue's from then on,
+/// and is listed where it may start. The only error is want of memory.
 pub(crate) fn list_called(queue: &mut Queue, tables: &Tables) -> Result<(), NoMemory>
     ensures jobs { OnOk result ((n : ℕ) → job_of queue.new n ≡ job_of queue.old n) }
     ensures workers { OnOk result (workers_of queue.new ≡ workers_of queue.old) }

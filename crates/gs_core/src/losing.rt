@@ -4,8 +4,8 @@ ghost use Rattle.gs_core.specs.GivenUp.{next_loss, workers_lost};
 
 use gs_broker::Loss;
 
-/// What is given up: a task that has failed too often, the workers of a task, or the whole run, since
-/// the entry with this index has a task of another form.
+/// What is given up: a task that has failed too often, the workers of a task, or the whole run,
+/// since the entry with this index has a task of another form.
 #[derive(Clone, Copy, Debug, PartialEq, Eq, Drop)]
 pub(crate) enum Lost {
     Task { n: u32 },

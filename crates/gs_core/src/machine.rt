@@ -51,8 +51,8 @@ impl Core {
     ghost use Rattle.gs_core.specs.Stages.{IsLooking, IsSaving, IsLoaded, ByAsked, LoadBy, with_seen, with_saved, AnswersLook};
     ghost use Rattle.gs_core.specs.Core.{Stands, SameProgram, IsVerdict};
 
-    /// A core of a program that has asked nothing yet: the program, what earlier calls recorded, the
-    /// workers, and how many calls may be unfinished at once. The only error is want of memory.
+    /// A core of a program that has asked nothing yet: the program, what earlier calls recorded,
+    /// the workers, and how many calls may be unfinished at once. The only error is want of memory.
     pub fn new(
         alloc: Global,
         main: Main,
@@ -65,7 +65,8 @@ impl Core {
         ensures main { IfOk result (λ c. (c.main ≡ main) × (c.asked ≡ None)) }
         ensures stage { IfOk result (λ c. c.stage ≡ stage.Open) }
         ensures jobs { IfOk result (λ c. (n : ℕ) → job_of c.queue n ≡ None) }
-        ensures stands { (s : Setup) (h : History) → IsGiven (talking main) broker window notes.items s →
+        ensures stands { (s : Setup) (h : History) →
+            IsGiven (talking main) broker window notes.items s →
             AreNoted s s.notes h → IfOk result (λ c. Stands c s 0 h) }
     {
         Ok(Core {
@@ -143,7 +144,8 @@ impl Core {
     /// How the run has ended.
     pub fn verdict(&self) -> Verdict
         requires { self.now.stage ≡ stage.Settled }
-        ensures { (s : Setup) (k : ℕ) (h : History) → Stands self.now s k h → IsVerdict s k h result }
+        ensures { (s : Setup) (k : ℕ) (h : History) → Stands self.now s k h →
+            IsVerdict s k h result }
     {
         match self.lost {
             Some(Lost::Task { n }) => Verdict::TaskLost { n },

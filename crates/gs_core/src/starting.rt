@@ -45,8 +45,8 @@ fn list_all(queue: &mut Queue, tables: &Tables)
     }
 }
 
-// Lists the tasks that may start since task `n` has finished. It takes no memory. A follower is told
-// as often as it reads, so they may be more than can be numbered: each task is looked at then.
+// Lists the tasks that may start since task `n` has finished. It takes no memory. A follower is
+// told as often as it reads, so they may be more than can be numbered: each task is looked at then.
 fn list_freed(queue: &mut Queue, tables: &Tables, n: u32)
     ensures more { ListsFreed tables.now queue.old queue.new }
     ensures full { ListsFollowers tables.now n queue.old queue.new }
@@ -103,7 +103,8 @@ impl Core {
         self.queue.started(n, worker);
     }
 
-    /// Task `n`, which was in flight, has finished, and gave this at its places. It takes no memory.
+    /// Task `n`, which was in flight, has finished, and gave this at its places. It takes no
+    /// memory.
     pub fn finished(&mut self, n: u32, outs: Sequence<OutNote>)
         requires { IsSome (job_of self.old.queue n) }
         ensures program { SameProgram self.old self.new }
@@ -112,7 +113,8 @@ impl Core {
         ensures jobs { SetsJob n None self.old self.new }
         ensures stage { self.new.stage ≡ reopened self.old.stage }
         ensures stands { (s : Setup) (k : ℕ) (h : History) (values : List value.Value) →
-            self.old.stage ≡ stage.Settled → Stands self.old s k h → (fits : IsFinish s h n values) →
+            self.old.stage ≡ stage.Settled → Stands self.old s k h →
+            (fits : IsFinish s h n values) →
             outs ≡ outs_noted 1 fits.task.params values →
             Stands self.new s k (finished n values ∷ h) }
     {

@@ -86,13 +86,14 @@ impl Core {
         }
     }
 
-    // Answers the next question, or finds what it needs from the disk, or settles. The only error is
-    // want of memory.
+    // Answers the next question, or finds what it needs from the disk, or settles. The only error
+    // is want of memory.
     fn turn(&mut self) -> Result<Option<Step>, NoMemory>
         requires { IsAwake self.old.asked (talking self.old.main).next }
         ensures turn { IfOk result (IsTurn self.old.stage self.old self.new) }
         ensures turned { (s : Setup) (k : ℕ) (h : History) → self.old.lost ≡ None →
-            IsAnswered self.old.stage → Stands self.old s k h → IfOk result (Turned self.new s k h) }
+            IsAnswered self.old.stage → Stands self.old s k h →
+            IfOk result (Turned self.new s k h) }
     {
         let x = self.due()?;
         let stage = mem::replace(&mut self.stage, Stage::Open);
@@ -115,7 +116,8 @@ impl Core {
     }
 
     /// Asks and answers as far as the tasks that have finished let it, or to the next thing that is
-    /// needed from the disk. The only error is want of memory, after which the core isn't used again.
+    /// needed from the disk. The only error is want of memory, after which the core isn't used
+    /// again.
     pub fn advance(&mut self) -> Result<Step, NoMemory>
         requires answered { IsAnswered self.old.stage }
         requires awake { IsAwake self.old.asked (talking self.old.main).next }

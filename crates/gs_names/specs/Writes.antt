@@ -1,5 +1,5 @@
 -- What was written, the newest write first.
-use Rattle.std.specs.Prelude.{ℕ, List, [], ◌∷◌, ◌++◌, if◌then◌else◌, map, bytes_eq}
+use Rattle.std.specs.Prelude.{◌≡◌, ℕ, false, List, [], ◌∷◌, ◌++◌, if◌then◌else◌, map, bytes_eq, slice_get, Option, Some, None}
 use Rattle.std.specs.List.{list_any, position_or_len}
 use Rattle.indexmap.specs.IndexMap.{insert_entry}
 use Rattle.gs_types.specs.declared.note.Version.{Version}
@@ -22,6 +22,11 @@ latest x (w ∷ ws) = if bytes_eq x w.0 then w.1 else latest x ws
 -- a name's number: its place among the names, or behind them if it isn't among them
 abbrev pub number_of : List ℕ → List (List ℕ) → ℕ
 number_of x xs = position_or_len (bytes_eq x) xs
+
+-- the name has this number; or it isn't among the names
+abbrev pub IsNumberOf : (names : List (List ℕ)) → List ℕ → Option ℕ → Type 0
+IsNumberOf names x None = list_any (bytes_eq x) names ≡ false
+IsNumberOf names x (Some i) = slice_get names i ≡ Some x
 
 -- the names, each once: one more goes behind the others if it isn't among them
 abbrev pub with_name : List (List ℕ) → List ℕ → List (List ℕ)

@@ -37,7 +37,7 @@ fn copies_of(
 
 impl NameTable {
     ghost use Rattle.std.specs.Prelude.{◌≡◌, ◌<◌, ◌≤◌, ◌+◌, ◌-◌, ◌^◌, ◌∷◌, [], length, slice_get, OnOk, OnErr, IfOk, Some};
-    ghost use Rattle.gs_names.specs.Writes.{latest, finals_of, first_written, names_of, number_of, with_name};
+    ghost use Rattle.gs_names.specs.Writes.{latest, finals_of, first_written, names_of, number_of, with_name, IsNumberOf};
     ghost use Rattle.gs_names.specs.Table.{names_in, writes_in, spare_in};
 
     /// A table without names. It takes no memory.
@@ -65,6 +65,16 @@ impl NameTable {
     {
         let (i, _) = self.names.insert_full(name)?;
         Ok(i as u32)
+    }
+
+    /// The name's number; `None` exactly where it has none.
+    pub fn number_of(&self, name: &Name) -> Option<u32>
+        ensures { IsNumberOf (names_in self.now) name.now result }
+    {
+        match self.names.get_index_of(name) {
+            Some(i) => Some(i as u32),
+            None => None,
+        }
     }
 
     /// The name of a number that was given.

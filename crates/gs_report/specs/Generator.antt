@@ -82,4 +82,5 @@ mark_gives _ = None
 -- what the operations give
 abbrev pub self_gives : List ℕ → List Value → Option (List Value)
 self_gives op ins =
-    if bytes_eq op (codes "hash") then hash_gives ins else (if bytes_eq op (codes "mark") then mark_gives ins else None)
+    if bytes_eq op (codes "hash") then hash_gives ins
+    else (if bytes_eq op (codes "mark") then mark_gives ins else None)

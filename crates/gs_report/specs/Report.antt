@@ -52,7 +52,11 @@ entry_text made.Closed = []
 -- a byte of a string, with the five escapes
 abbrev pub escaped : ℕ → List ℕ
 escaped b =
-    if b == 10 then codes "\\n" else (if b == 9 then codes "\\t" else (if b == 13 then codes "\\r" else (if b == 92 then codes "\\\\" else (if b == 34 then codes "\\\"" else b ∷ []))))
+    if b == 10 then codes "\\n"
+    else (if b == 9 then codes "\\t"
+    else (if b == 13 then codes "\\r"
+    else (if b == 92 then codes "\\\\"
+    else (if b == 34 then codes "\\\"" else b ∷ []))))
 
 abbrev pub quoted : List ℕ → List ℕ
 quoted s = codes "\"" ++ flat_map escaped s ++ codes "\""

@@ -59,7 +59,7 @@ fn report_of(alloc: Global, payloads: &[&[u8]]) -> Result<Blob, StoreErr> {
 }
 
 #[test]
-fn a_closed_record_is_reported_as_in_row_24(rt: HostRuntime) -> Result<(), Fail> {
+fn a_closed_record_is_reported_whole(rt: HostRuntime) -> Result<(), Fail> {
     let text = report_of(rt.alloc(), &[HEADER, DONE_1, GATE, CLOSED])?;
     let told = b"stage closed\nrun k.idl p.c\ndone 1 3:file:3\nfile C 3 \
         ba7816bf8f01cfea414140de5dae2223b00361a396177a9cb410ff61f20015ad\nactions 2\ntext 0\n";

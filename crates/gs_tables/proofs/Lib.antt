@@ -18,3 +18,5 @@ mod Finishing
 mod Arguments
 mod Supplying
 mod Listing
+mod Naming
+mod Leaving

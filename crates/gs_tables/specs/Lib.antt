@@ -7,5 +7,7 @@ pub mod Sources
 pub mod Lengths
 pub mod Table
 pub mod Holds
+pub mod Finals
+pub mod Gate
 pub mod Asked
 pub mod Starts

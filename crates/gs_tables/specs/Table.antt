@@ -12,10 +12,6 @@ use Rattle.gs_tables.specs.declared.tables.Tables.{Tables}
 unfoldable pub called_in : Tables → ℕ
 called_in t = length t.rows.items
 
--- how many of them have not finished
-unfoldable pub unfinished_in : Tables → ℕ
-unfinished_in t = t.unfinished
-
 -- how long the contents are that the program closed
 unfoldable pub mains_in : Tables → List ℕ
 mains_in t = t.mains.items

@@ -1,7 +1,7 @@
 // What comes of the other questions.
 #![tactic(auto, unfolding(crate::specs::Table::mains_in, crate::specs::Table::looked_in))]
 
-ghost use Rattle.std.specs.Prelude.{◌≡◌, ◌++◌, ◌∷◌, [], ◌<◌, ◌+◌, ◌≤◌, ℕ, List, length, IfOk, IfSome, OnOk, Some, None, Option, true, false};
+ghost use Rattle.std.specs.Prelude.{◌≡◌, ◌++◌, ◌∷◌, [], ◌<◌, ◌+◌, ◌≤◌, ℕ, List, length, IfOk, IfSome, IsSome, OnOk, ◌^◌, Some, None, Option, true, false};
 ghost use Rattle.gs_types.specs.History.{History};
 ghost use Rattle.gs_tree.specs.declared.tree.Mode.{Mode};
 ghost use Rattle.gs_talk.specs.declared.question.Answer as answer;
@@ -120,7 +120,8 @@ impl Tables {
     /// The number, from 1, of the next content that the program closes; `None` where the numbers
     /// end.
     pub fn next_main(&self) -> Option<u32>
-        ensures { IfSome result (λ k. k ≡ length (mains_in self.now) + 1) }
+        ensures number { IfSome result (λ k. k ≡ length (mains_in self.now) + 1) }
+        ensures some { length (mains_in self.now) + 1 < 2 ^ 32 → IsSome result }
     {
         u32::try_from(self.mains.len() + 1).ok()
     }

@@ -4,6 +4,7 @@
 
 mod answering;
 mod asking;
+mod gating;
 mod lengths;
 mod marking;
 mod noted;
@@ -17,6 +18,7 @@ mod tests;
 
 pub use answering::Scalar;
 pub use asking::Called;
+pub use gating::Gated;
 pub use noted::DoneNote;
 pub use row::StartArg;
 pub use tables::Tables;

@@ -1,5 +1,5 @@
-use Rattle.std.proofs.Common.{◌≡◌, ◌≤◌, ◌<◌, ◌+◌, ℕ, suc, sym, ap, ◌∙◌, subst, arith, Bool, true, false}
-use Rattle.gs_history.specs.Setup.{count_at, world_at}
+use Rattle.std.proofs.Common.{◌≡◌, ℕ, suc, sym, ap, ◌∙◌, subst, arith, true}
+use Rattle.gs_history.specs.Setup.{world_at}
 use Rattle.gs_talk.specs.Seq.{task_at}
 use Rattle.gs_tables.specs.Starts.{IsOpenSaid}
 use Rattle.gs_core.proofs.Asking.{no_more, none_bears, ready_bears, waiting_bears}

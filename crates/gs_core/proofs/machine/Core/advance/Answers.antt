@@ -1,9 +1,7 @@
-use Rattle.std.proofs.Common.{◌≡◌, ◌≤◌, ◌∙◌, ℕ, refl, sym, ap, subst, arith, inl, Option, Some, None, IsSome, is_some, true}
+use Rattle.std.proofs.Common.{◌≡◌, ◌∙◌, refl, sym, subst, arith, inl, Some, is_some, true}
 use Rattle.gs_tables.specs.Table.{looked_in}
 use Rattle.gs_core.specs.Core.{Turned, IsOnce}
-use Rattle.gs_core.specs.Turns.{IsTurn, taken_in}
-use Rattle.gs_core.specs.declared.stage.Stage.{Stage}
-use Rattle.gs_core.specs.declared.stage.Step.{Step}
+use Rattle.gs_core.specs.Turns.{IsTurn}
 use Rattle.gs_core.proofs.Going.{kept_same, once_taken}
 use Rattle.gs_core.proofs.Resting.{rest_lost, rest_none, before_at, lost_looks}
 use Rattle.gs_core.proofs.Settled.{some_lost}

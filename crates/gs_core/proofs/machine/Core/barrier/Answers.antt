@@ -1,15 +1,13 @@
-use Rattle.std.proofs.Common.{◌≡◌, ◌+◌, ℕ, refl, sym, ap, ◌∙◌, subst, List, Option, Some, None, [], ◌∷◌, ◌++◌, length, arith, true, false, Bool}
+use Rattle.std.proofs.Common.{refl}
 use Rattle.std.proofs.lemmas.Result.{IfOk-weaker}
-use Rattle.gs_talk.specs.declared.question.Question.{Question}
 use Rattle.gs_talk.specs.declared.question.Question.TheVariants as q
-use Rattle.gs_talk.specs.declared.question.Answer.{Answer}
 use Rattle.gs_talk.specs.declared.question.Answer.TheVariants as said
-use Rattle.gs_main.specs.Talking.{a_value, an_end, a_content, a_word}
+use Rattle.gs_main.specs.Talking.{a_word}
 use Rattle.gs_main.specs.Shown.{talking}
-use Rattle.gs_history.specs.Setup.{Setup, rest_at, world_at}
+use Rattle.gs_history.specs.Setup.{rest_at}
 use Rattle.gs_core.specs.Turns.{IsTurn}
-use Rattle.gs_core.proofs.Talkative.{awaiting, like_same}
-use Rattle.gs_core.proofs.Handled.{with_tables, turning_with, answering, turn_with, frontier_of, goes_on, by_asked}
+use Rattle.gs_core.proofs.Talkative.{awaiting}
+use Rattle.gs_core.proofs.Handled.{with_tables, turning_with, answering, turn_with, frontier_of}
 use Rattle.gs_core.proofs.machine.Core.barrier.Goals as goal
 
 pub returns-then-branch-clause-turn : goal.returns-then-branch-clause-turn

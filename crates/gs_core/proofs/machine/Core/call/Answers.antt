@@ -1,29 +1,21 @@
-use Rattle.std.proofs.Common.{◌≡◌, ◌+◌, ◌≤◌, ℕ, refl, sym, ap, ◌∙◌, subst, List, Option, Some, None, [], ◌∷◌, ◌++◌, length, arith, true, false, Bool}
+use Rattle.std.proofs.Common.{refl, sym, ap, ◌∙◌, subst, List, Some}
 use Rattle.std.proofs.lemmas.Result.{IfOk-weaker}
-use Rattle.gs_idl.specs.Interface.{Signature, params_at}
-use Rattle.gs_talk.specs.declared.question.Question.{Question}
 use Rattle.gs_talk.specs.declared.question.CallArg.{CallArg}
 use Rattle.gs_talk.specs.declared.question.Question.TheVariants as q
-use Rattle.gs_talk.specs.declared.question.Answer.{Answer}
 use Rattle.gs_talk.specs.declared.question.Answer.TheVariants as said
-use Rattle.gs_main.specs.Talking.{a_value, an_end, a_content, a_word}
+use Rattle.gs_main.specs.Talking.{an_end}
 use Rattle.gs_main.specs.Shown.{talking}
-use Rattle.gs_history.specs.Setup.{Setup, rest_at, world_at}
-use Rattle.gs_core.specs.Turns.{IsTurn, Turning, Asks}
+use Rattle.gs_history.specs.Setup.{rest_at}
+use Rattle.gs_core.specs.Turns.{IsTurn, Asks}
 use Rattle.gs_core.proofs.Resting.{none_rest}
-use Rattle.gs_core.proofs.Talkative.{awaiting, like_same}
+use Rattle.gs_core.proofs.Talkative.{awaiting}
 use Rattle.gs_core.proofs.Handled.{with_tables, turning_with, answering, turn_with, frontier_of, goes_on, by_asked}
-use Rattle.gs_types.specs.History.{History}
-use Rattle.gs_talk.specs.Talk.{Dialogue, State}
 use Rattle.gs_tables.specs.Asked.{IsCalled, HasGone}
 use Rattle.gs_tables.specs.declared.asking.Called.{Called}
 use Rattle.gs_tables.specs.declared.asking.Called.TheVariants as called
 use Rattle.gs_core.specs.Stages.{LookBy}
-use Rattle.gs_core.specs.Core.{NotClosing}
 use Rattle.gs_tables.specs.Table.{looked_in}
-use Rattle.gs_core.specs.declared.losing.Lost.TheVariants as lost
 use Rattle.gs_core.specs.declared.stage.Stage.TheVariants as stage
-use Rattle.gs_core.proofs.Talkative.{Awaiting}
 use Rattle.gs_core.proofs.machine.Core.call.Goals as goal
 
 pub returns-in-Went-clause-turn : goal.returns-in-Went-clause-turn

@@ -1,19 +1,13 @@
-use Rattle.std.proofs.Common.{◌≡◌, ◌+◌, ◌≤◌, ℕ, refl, sym, ap, ◌∙◌, subst, List, Option, Some, None, [], ◌∷◌, ◌++◌, length, arith, true, false, Bool}
+use Rattle.std.proofs.Common.{◌≡◌, refl, None}
 use Rattle.std.proofs.lemmas.Result.{IfOk-weaker}
-use Rattle.gs_idl.specs.Interface.{Signature, params_at}
-use Rattle.gs_talk.specs.declared.question.Question.{Question}
-use Rattle.gs_talk.specs.declared.question.CallArg.{CallArg}
 use Rattle.gs_talk.specs.declared.question.Question.TheVariants as q
-use Rattle.gs_talk.specs.declared.question.Answer.{Answer}
 use Rattle.gs_talk.specs.declared.question.Answer.TheVariants as said
-use Rattle.gs_main.specs.Talking.{a_value, an_end, a_content, a_word}
+use Rattle.gs_main.specs.Talking.{a_word}
 use Rattle.gs_main.specs.Shown.{talking}
-use Rattle.gs_history.specs.Setup.{Setup, rest_at, world_at}
-use Rattle.gs_core.specs.Turns.{IsTurn, Turning, Asks}
-use Rattle.gs_core.proofs.Resting.{none_rest}
-use Rattle.gs_core.proofs.Talkative.{awaiting, like_same}
-use Rattle.gs_core.proofs.Handled.{with_tables, turning_with, answering, turn_with, frontier_of, goes_on, by_asked}
-use Rattle.gs_core.specs.Stages.{LengthOf}
+use Rattle.gs_history.specs.Setup.{rest_at}
+use Rattle.gs_core.specs.Turns.{IsTurn}
+use Rattle.gs_core.proofs.Talkative.{awaiting}
+use Rattle.gs_core.proofs.Handled.{with_tables, answering}
 use Rattle.gs_core.specs.declared.stage.Stage.TheVariants as stage
 use Rattle.gs_core.proofs.Closing.{turn_closed, closes, both_ok}
 use Rattle.gs_core.proofs.machine.Core.closed.Goals as goal

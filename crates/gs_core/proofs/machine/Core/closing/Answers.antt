@@ -1,19 +1,11 @@
-use Rattle.std.proofs.Common.{◌≡◌, ◌+◌, ◌≤◌, ℕ, refl, sym, ap, ◌∙◌, subst, List, Option, Some, None, [], ◌∷◌, ◌++◌, length, arith, true, false, Bool}
-use Rattle.std.proofs.lemmas.Result.{IfOk-weaker}
-use Rattle.gs_idl.specs.Interface.{Signature, params_at}
-use Rattle.gs_talk.specs.declared.question.Question.{Question}
-use Rattle.gs_talk.specs.declared.question.CallArg.{CallArg}
+use Rattle.std.proofs.Common.{◌≡◌, refl, ap, Some, length}
 use Rattle.gs_talk.specs.declared.question.Question.TheVariants as q
-use Rattle.gs_talk.specs.declared.question.Answer.{Answer}
-use Rattle.gs_talk.specs.declared.question.Answer.TheVariants as said
-use Rattle.gs_main.specs.Talking.{a_value, an_end, a_content, a_word}
+use Rattle.gs_main.specs.Talking.{a_word}
 use Rattle.gs_main.specs.Shown.{talking}
-use Rattle.gs_history.specs.Setup.{Setup, rest_at, world_at}
-use Rattle.gs_core.specs.Turns.{IsTurn, Turning, Asks}
+use Rattle.gs_history.specs.Setup.{rest_at}
 use Rattle.gs_core.proofs.Resting.{none_rest}
-use Rattle.gs_core.proofs.Talkative.{awaiting, like_same}
-use Rattle.gs_core.proofs.Handled.{with_tables, turning_with, answering, turn_with, frontier_of, goes_on, by_asked}
-use Rattle.gs_types.specs.declared.note.Version.TheVariants as version
+use Rattle.gs_core.proofs.Talkative.{awaiting}
+use Rattle.gs_core.proofs.Handled.{goes_on, by_asked}
 use Rattle.gs_core.specs.Stages.{SaveBy}
 use Rattle.gs_core.specs.declared.stage.Stage.TheVariants as stage
 use Rattle.gs_core.proofs.Closing.{length_of, save_by}
@@ -34,5 +26,5 @@ returns-clause-turned c = λ s k h now asks.
         talks = (x, refl, asks);
         rest = none_rest old.lost (stage.Saving len) (Some (q.CloseFile c.args.name c.of.result)) s k h now.calm (now.before, length_of len (rest_at s k) c.args.name c.args.bytes st aw.goes aw.rest is);
       },
-      (may, by_asked (SaveBy s k c.in-Some.k c.args.bytes) (rest_at s k) x st aw.goes aw.rest (save_by old.tables s k h c.in-Some.k now.bears.tables c.in-Some.ensures, refl)),
+      (may, by_asked (SaveBy s k c.in-Some.k c.args.bytes) (rest_at s k) x st aw.goes aw.rest (save_by old.tables s k h c.in-Some.k now.bears.tables c.in-Some.ensures.number, refl)),
     )

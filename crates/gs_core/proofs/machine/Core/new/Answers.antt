@@ -1,9 +1,9 @@
-use Rattle.std.proofs.Common.{◌≡◌, refl, sym, ap, ◌∙◌}
+use Rattle.std.proofs.Common.{ap, ◌∙◌}
 use Rattle.gs_broker.specs.Listed.{program_in}
 use Rattle.gs_broker.specs.declared.workers.Workers.{Workers}
-use Rattle.gs_talk.specs.Talk.{Dialogue}
 use Rattle.gs_main.specs.Talking.{Goes}
 use Rattle.gs_works.proofs.Losing.{beginning_is_before}
+use Rattle.gs_small.proofs.Small.{tasks_are_small}
 use Rattle.gs_core.proofs.Beginnings.{bears_first, first_rest}
 use Rattle.gs_core.proofs.machine.Core.new.Goals as goal
 
@@ -18,7 +18,7 @@ returns-clause-stands c = λ s h given noted.
         texts = given.texts;
         operations = given.operations;
         programs = λ w. ap (λ (ws : Workers). program_in ws w) begins.workers ∙ given.programs w;
-        small = given.small;
+        small = tasks_are_small s given.sized;
       };
       talks = given.begins ∙ ap Goes (first_rest s);
       rest = (beginning_is_before s h given.workers.some_tries noted, tt);

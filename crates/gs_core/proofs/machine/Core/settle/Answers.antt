@@ -1,4 +1,4 @@
-use Rattle.std.proofs.Common.{◌≡◌, sym, subst, refl, Option, Some}
+use Rattle.std.proofs.Common.{sym, subst, refl, Option, Some}
 use Rattle.gs_core.specs.Core.{AtRest}
 use Rattle.gs_core.specs.declared.losing.Lost.{Lost}
 use Rattle.gs_core.specs.declared.stage.Stage.TheVariants as stage

@@ -1,4 +1,4 @@
-use Rattle.std.proofs.Common.{◌≡◌, ℕ, refl, sym, ap, ◌∙◌, subst, Option, Some, None, []}
+use Rattle.std.proofs.Common.{◌≡◌, refl, sym, ap, ◌∙◌, subst, Some, None, []}
 use Rattle.std.proofs.lemmas.Result.{IfOk-weaker}
 use Rattle.gs_talk.specs.declared.question.Question.{Question}
 use Rattle.gs_talk.specs.declared.question.Question.TheVariants as q
@@ -6,10 +6,8 @@ use Rattle.gs_main.specs.Talking.{Asked}
 use Rattle.gs_main.specs.Shown.{talking}
 use Rattle.gs_history.specs.Setup.{rest_at}
 use Rattle.gs_core.specs.Talker.{IsLike}
-use Rattle.gs_core.specs.Turns.{IsTurn, IsDueQuestion, loaded_in, saved_in}
+use Rattle.gs_core.specs.Turns.{IsTurn, loaded_in, saved_in}
 use Rattle.gs_core.specs.declared.machine.Core.{Core}
-use Rattle.gs_core.specs.declared.stage.Stage.{Stage}
-use Rattle.gs_core.specs.declared.stage.Loaded.{Loaded}
 use Rattle.gs_core.proofs.Talkative.{stopped_at}
 use Rattle.gs_core.proofs.Handled.{ended}
 use Rattle.gs_core.proofs.Resting.{rest_none}

@@ -20,7 +20,7 @@ returns-clause-went c = λ s k h bytes next holds asked len.
     let w = c.write.ensures in
     let closed = (world_at s k).closed in
     let count : length c.args.self.now.mains.items ≡ length closed = ap length holds.mains ∙ length-map closed length in
-    let number : c.in-Some.k ≡ length closed + 1 = c.in-Some.ensures ∙ ap (λ (i : ℕ). i + 1) count in
+    let number : c.in-Some.k ≡ length closed + 1 = c.in-Some.ensures.number ∙ ap (λ (i : ℕ). i + 1) count in
     let old = names_in c.args.self.now.names in
     goes c.args.self.now _ s k h x asked.0 next _ holds asked.1 (record { may = tt; says = refl }) (plain_fits s k x asked.0 next asked.1 tt) (plain_none s k x tt)
     (record { rows = refl; notes = refl; unfinished_is = refl; window = refl; tasks = m.tasks })

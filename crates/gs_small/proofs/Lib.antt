@@ -1,0 +1,4 @@
+pub mod Asking
+pub mod Programs
+pub mod Sizes
+pub mod Small

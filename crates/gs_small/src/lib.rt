@@ -1,0 +1,4 @@
+//! Each task of a run is small: a law of the sequential run.
+#![tactic(auto)]
+
+pub mod laws;
