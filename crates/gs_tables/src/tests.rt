@@ -1,9 +1,9 @@
 // Small runs by hand, and runs of ten thousand tasks.
-use crate::{Called, DoneNote, Gated, Scalar, StartArg, Tables};
+use crate::{Called, DoneNote, Scalar, StartArg, Tables};
 use gs_idl::{Idl, read};
 use gs_looks::Seen;
 use gs_talk::CallArg;
-use gs_types::{Action, FinalNote, Name, NoMemory, Note, OutNote, Sequence, Text, Version};
+use gs_types::{Name, NoMemory, Note, OutNote, Sequence, Text, Version};
 use std::alloc::Global;
 use std::test::Fail;
 
@@ -333,39 +333,6 @@ fn a_noted_task_is_done_when_it_is_called(rt: HostRuntime) -> Result<(), Fail> {
 fn a_note_of_another_form_misfits(rt: HostRuntime) -> Result<(), Fail> {
     let noted = call_noted(rt.alloc(), Note::Int { v: 9 })?;
     assert!(rt; noted == (Came::Misfits, Some((0, None)), 0));
-    Ok(())
-}
-
-// The program reads `A`, calls `grow("F", "x");` twice, which leave 7 bytes and 9, and writes 5 bytes
-// to `A`.
-fn write_twice(alloc: Global) -> Result<Gated, NoMemory> {
-    let mut run = Trial::new(alloc, Vec::new(alloc), 9)?;
-    run.tables.opened(&name_of(b"A")?)?;
-    run.looked(b"F", Seen::Len { len: 3 })?;
-    run.grow(b"F")?;
-    run.grow(b"F")?;
-    run.tables.closed(&name_of(b"A")?, 5)?;
-    run.finished(1, 1, Note::File { len: 7 })?;
-    run.finished(2, 1, Note::File { len: 9 })?;
-    run.tables.gate()
-}
-
-// The number of its name, that of its task or content, and its length.
-fn numbers_of(last: &FinalNote) -> (u32, u32, u64) {
-    (last.name, number_of(&last.version), last.len)
-}
-
-// `F` was written first, and `A` has the first number.
-#[test]
-fn a_gate_has_the_last_version_of_each_written_file(rt: HostRuntime) -> Result<(), Fail> {
-    let gated = write_twice(rt.alloc())?;
-    assert_eq!(rt; gated.names.len(), 2);
-    assert!(rt; *gated.names.at(0) == name_of(b"A")? && *gated.names.at(1) == name_of(b"F")?);
-    assert_eq!(rt; gated.finals.len(), 2);
-    assert!(rt; numbers_of(gated.finals.at(0)) == (1, 2, 9));
-    assert!(rt; numbers_of(gated.finals.at(1)) == (0, 1, 5));
-    assert_eq!(rt; gated.actions.len(), 5);
-    assert!(rt; matches!(gated.actions.at(4), Action::End));
     Ok(())
 }
 
