@@ -1,9 +1,9 @@
 // Small runs by hand, and runs of ten thousand tasks.
-use crate::{Called, DoneNote, Scalar, StartArg, Tables};
+use crate::{Called, DoneNote, Gated, Scalar, StartArg, Tables};
 use gs_idl::{Idl, read};
 use gs_looks::Seen;
 use gs_talk::CallArg;
-use gs_types::{Name, NoMemory, Note, OutNote, Sequence, Text, Version};
+use gs_types::{Action, FinalNote, Name, NoMemory, Note, OutNote, Sequence, Text, Version};
 use std::alloc::Global;
 use std::test::Fail;
 
@@ -333,6 +333,58 @@ fn a_noted_task_is_done_when_it_is_called(rt: HostRuntime) -> Result<(), Fail> {
 fn a_note_of_another_form_misfits(rt: HostRuntime) -> Result<(), Fail> {
     let noted = call_noted(rt.alloc(), Note::Int { v: 9 })?;
     assert!(rt; noted == (Came::Misfits, Some((0, None)), 0));
+    Ok(())
+}
+
+// The program reads `A`, calls `grow("F", "x");` twice, which leave 7 bytes and 9, and writes 5 bytes
+// to `A`.
+fn write_twice(alloc: Global) -> Result<Gated, NoMemory> {
+    let mut run = Trial::new(alloc, Vec::new(alloc), 9)?;
+    run.tables.opened(&name_of(b"A")?)?;
+    run.looked(b"F", Seen::Len { len: 3 })?;
+    run.grow(b"F")?;
+    run.grow(b"F")?;
+    run.tables.closed(&name_of(b"A")?, 5)?;
+    run.finished(1, 1, Note::File { len: 7 })?;
+    run.finished(2, 1, Note::File { len: 9 })?;
+    run.tables.gate()
+}
+
+// The number of its name, that of its task or content, and its length.
+fn numbers_of(last: &FinalNote) -> (u32, u32, u64) {
+    (last.name, number_of(&last.version), last.len)
+}
+
+// A list of two names.
+fn are_names(names: &[Name], first: &[u8], second: &[u8]) -> bool {
+    names.len() == 2 && names[0].bytes() == first && names[1].bytes() == second
+}
+
+// A list of two finals.
+fn are_finals(finals: &[FinalNote], first: (u32, u32, u64), second: (u32, u32, u64)) -> bool {
+    finals.len() == 2 && numbers_of(&finals[0]) == first && numbers_of(&finals[1]) == second
+}
+
+// So many actions, the last of them the end.
+fn ends_behind(actions: &[Action], count: usize) -> bool {
+    count > 0 && actions.len() == count && matches!(&actions[count - 1], Action::End)
+}
+
+// The names, the finals and the actions of two writes, as they should be.
+fn tell_two_writes(alloc: Global) -> Result<(bool, bool, bool), NoMemory> {
+    let gated = write_twice(alloc)?;
+    Ok((
+        are_names(gated.names.items(), b"A", b"F"),
+        are_finals(gated.finals.items(), (1, 2, 9), (0, 1, 5)),
+        ends_behind(gated.actions.items(), 5),
+    ))
+}
+
+// `F` was written first, and `A` has the first number.
+#[test]
+fn a_gate_has_the_last_version_of_each_written_file(rt: HostRuntime) -> Result<(), Fail> {
+    let told = tell_two_writes(rt.alloc())?;
+    assert!(rt; told == (true, true, true));
     Ok(())
 }
 
