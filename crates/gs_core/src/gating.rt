@@ -13,8 +13,8 @@ impl Core {
     ghost use Rattle.gs_core.specs.Core.{Stands, IsVerdict};
     ghost use Rattle.gs_core.specs.Gate.{IsGate};
 
-    /// What the program did and left, where it has ended: where the verdict is `Ended`. Each part is
-    /// as long as the program's own, and the only error is want of memory.
+    /// What the program did and left, where it has ended: where the verdict is `Ended`. Each part
+    /// is as long as the program's own, and the only error is want of memory.
     pub fn gate_note(&self) -> Result<GateNote, NoMemory>
         requires { self.now.stage ≡ stage.Settled }
         ensures { (s : Setup) (k : ℕ) (h : History) → Stands self.now s k h →

@@ -28,7 +28,8 @@ AreLatestPairs t upto ends best =
     (j : ℕ) → j < length best → IsLatest (λ i. HasPair t upto i j) ends (best_at best j)
 
 -- for each of the first tasks the latest of those that it follows; for the others as before
-pub record AreLatestUpto (t : Ties) (upto : ℕ) (ends : List ℕ) (best : List (Option ℕ)) : Type 0 where
+pub record AreLatestUpto (t : Ties) (upto : ℕ) (ends : List ℕ) (best : List (Option ℕ)) :
+    Type 0 where
   pub done : (j : ℕ) → j < upto → j < length best →
       IsLatest (λ i. Ordered t i j) ends (best_at best j)
   pub rest : (j : ℕ) → upto ≤ j → j < length best →

@@ -31,7 +31,8 @@ pub data LineSays (ops : List Signature) (line : List ℕ) : Given → Given →
       → LineSays ops line before (slice_set before op (Some d))
 
 -- the first fault of a line: what comes before it in the order is right
-pub data IsLineFault (ops : List Signature) (line : List ℕ) (before : Given) : DurKind → Type 0 where
+pub data IsLineFault (ops : List Signature) (line : List ℕ) (before : Given) :
+    DurKind → Type 0 where
   bad_byte : HasBadByte line → IsLineFault ops line before BadByte
   bad_line : (words : List (List ℕ)) → HasWords line words → words ≢ []
       → ((name digits : List ℕ) → words ≢ name ∷ digits ∷ []) → IsLineFault ops line before BadLine

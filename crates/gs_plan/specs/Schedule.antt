@@ -14,7 +14,8 @@ pub record IsLegal (count : ℕ) (longs : List ℕ) (precedes : ℕ → ℕ → 
   pub start_each : length starts ≡ length longs
   pub on_slot : (k : ℕ) → k < length longs → slice_index slots k < count
   pub apart : (i j : ℕ) → i < j → j < length longs → slice_index slots i ≡ slice_index slots j →
-      (end_of longs starts i ≤ slice_index starts j) ⊎ (end_of longs starts j ≤ slice_index starts i)
+      (end_of longs starts i ≤ slice_index starts j)
+      ⊎ (end_of longs starts j ≤ slice_index starts i)
   pub ordered : (i j : ℕ) → precedes i j → end_of longs starts i ≤ slice_index starts j
 
 -- no task ends after `end`

@@ -39,7 +39,8 @@ fn set_leaf(nodes: &mut Vec<u64>, levels: u32, place: usize, key: u64)
     requires small { levels ≤ 16 }
     requires inside { place < 2 ^ levels }
     ensures tree { IsTree nodes.new.items levels }
-    ensures leaf { leaves nodes.new.items levels ≡ slice_set (leaves nodes.old.items levels) place key }
+    ensures leaf { leaves nodes.new.items levels
+        ≡ slice_set (leaves nodes.old.items levels) place key }
 {
     let leaf = nodes.len() / 2 + place;
     nodes[leaf] = key;

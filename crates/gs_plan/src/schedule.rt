@@ -37,7 +37,8 @@ fn count_waits(alloc: Global, ties: &Ties, tasks: usize) -> Result<Vec<usize>, A
     requires { AreTies ties.now tasks }
     ensures length { IfOk result (λ left. length left.items ≡ tasks) }
     ensures counts { IfOk result (λ left. (j : ℕ) → j < tasks → slice_index left.items j
-        ≡ total_of (open_pair ties.now.afters.items (λ e. 0) j) (length ties.now.afters.items) + 1) }
+        ≡ total_of (open_pair ties.now.afters.items (λ e. 0) j)
+        (length ties.now.afters.items) + 1) }
 {
     let mut left = ones(alloc, tasks)?;
     for after in &ties.afters {

@@ -19,8 +19,8 @@ made_length rows mains (Original name) = 0
 made_length rows mains (Out n place) = noted_length (noted_in (row_outs (row_at rows n)) place)
 made_length rows mains (Main k) = main_length mains k
 
--- a file as the tables tell it: the number of its name, where it has one, its last version, and that
--- one's length
+-- a file as the tables tell it: the number of its name, where it has one, its last version, and
+-- that one's length
 pub record IsTold (t : Tables) (x : List ℕ) (f : FinalNote) : Type 0 where
   pub name : list_any (bytes_eq x) (names_in t.names) ≡ true
       → slice_get (names_in t.names) f.name ≡ Some x

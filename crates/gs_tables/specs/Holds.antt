@@ -29,8 +29,8 @@ use Rattle.gs_tables.specs.declared.tables.Tables.{Tables}
 pub record Waits (g : Graph) (s : Setup) (k : ℕ) (h : History) : Type 0 where
   pub count : count_in g ≡ count_at s k
   pub done : (n : ℕ) → 0 < n → n ≤ count_at s k → done_in g n ≡ is_some (outs_in h n)
-  pub needs : (n p : ℕ) (reads : List (Option Version)) → at_number (readings s.run k) n ≡ Some reads
-      → needs_in g n p ≡ feeds p reads
+  pub needs : (n p : ℕ) (reads : List (Option Version))
+      → at_number (readings s.run k) n ≡ Some reads → needs_in g n p ≡ feeds p reads
 
 -- what is done of a task that wasn't called yet is its note
 abbrev pub IsAhead : Setup → (n : ℕ) → Option (List Value) → Type 0
@@ -38,8 +38,8 @@ IsAhead s n None = note_at s.notes n ≡ None
 IsAhead s n (Some outs) = (x : Noting) × (note_at s.notes n ≡ Some x) × IsNoted s x n outs
 
 -- task n has a row
-pub record HasRow (rows : List Row) (h : History) (n : ℕ) (t : Task) (reads : List (Option Version)) :
-    Type 0 where
+pub record HasRow (rows : List Row) (h : History) (n : ℕ) (t : Task)
+    (reads : List (Option Version)) : Type 0 where
   pub row : Row
   pub at : row_at rows n ≡ Some row
   pub is : IsRow h n t reads row

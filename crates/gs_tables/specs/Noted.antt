@@ -37,8 +37,8 @@ misfit_of None op ps = None
 misfit_of (Some x) op ps = if is_form x op ps then None else Some x.index
 
 -- at a place: the next note is of the place and kind, where it gives something
-abbrev pub given_at : (gives : Bool) → (place : ℕ) → ParamKind → List OutNote → (List OutNote → Bool)
-    → Bool
+abbrev pub given_at : (gives : Bool) → (place : ℕ) → ParamKind → List OutNote
+    → (List OutNote → Bool) → Bool
 given_at true place kind outs more = gives_first place kind outs more
 given_at false place kind outs more = more outs
 

@@ -100,7 +100,8 @@ AreStartArgs first w h (x ∷ xs) (a ∷ args) =
 abbrev pub Starts : Setup → (k : ℕ) → History → Task → Option (ℕ × List StartArg) → Type 0
 Starts s k h t None = ⊥
 Starts s k h t (Some x) = (x.0 ≡ t.op)
-    × ((args : List Arg) × (t.args ≡ Some args) × AreStartArgs s.run.files (world_at s k) h x.1 args)
+    × ((args : List Arg) × (t.args ≡ Some args)
+    × AreStartArgs s.run.files (world_at s k) h x.1 args)
 
 -- costs tell apart the task's operation, and the length of what it reads
 pub record IsSmall (t : Task) : Type 0 where
