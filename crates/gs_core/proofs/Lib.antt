@@ -16,4 +16,6 @@ pub mod Closing
 pub mod Dues
 pub mod Going
 pub mod Beginnings
+pub mod Idle
+pub mod Rosters
 mod Leaving

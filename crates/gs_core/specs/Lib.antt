@@ -7,3 +7,4 @@ pub mod Turns
 pub mod Freed
 pub mod Beginning
 pub mod Gate
+pub mod Laws

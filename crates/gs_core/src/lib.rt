@@ -4,6 +4,7 @@
 
 mod gating;
 mod handling;
+pub mod laws;
 mod listing;
 mod losing;
 mod machine;
