@@ -40,7 +40,7 @@ fn settle(core: &mut Core, desk: &mut Desk<'_>) -> Result<(), NoMemory>
     Err(NoMemory)
 }
 
-// Starts what is due.
+// Starts what is due, each on a worker that is listed.
 fn start<F: Prices, C: CostLaw>(
     p: &Policy<F, C>,
     core: &mut Core,
@@ -53,6 +53,9 @@ fn start<F: Prices, C: CostLaw>(
         let Some(due) = core.next_start(p)? else {
             return Ok(());
         };
+        if due.worker >= core.workers().count() {
+            return Err(NoMemory);
+        }
         desk.start(&due)?;
         core.started(due.n, due.worker);
     }
@@ -163,6 +166,9 @@ fn run_by<F: Prices + Drop, C: CostLaw>(
     let mut core = core_of(alloc, case, notes)?;
     happen_all(&policy, &mut core, desk, events)?;
     finish_all(&policy, &mut core, desk)?;
+    if core.any_job().is_some() {
+        return Err(NoMemory);
+    }
     match core.verdict() {
         Verdict::Ended => Ok((Verdict::Ended, left(alloc, &core, desk)?)),
         verdict => Ok((verdict, Vec::new(alloc))),
