@@ -1,6 +1,6 @@
 -- Where nothing is under way.
 use Rattle.std.proofs.Common.{◌≡◌, ℕ, refl, sym, ◌∙◌, subst, Option, Some, None}
-use Rattle.gs_types.specs.History.{History, worker_in}
+use Rattle.gs_types.specs.History.{History}
 use Rattle.gs_talk.specs.declared.question.Question.{Question}
 use Rattle.gs_history.specs.Setup.{Setup}
 use Rattle.gs_history.specs.Notes.{NoMisfit}

@@ -1,5 +1,5 @@
 -- Each worker that a text lists has a slot.
-use Rattle.std.proofs.Common.{◌≡◌, ◌<◌, ℕ, zero, suc, true, List, [], ◌∷◌, ◌++◌, subst, refl, sym, ◌∙◌, arith, Some}
+use Rattle.std.proofs.Common.{◌≡◌, ◌<◌, ℕ, zero, suc, true, List, [], ◌∷◌, ◌++◌, subst, refl, ◌∙◌, arith, Some}
 use Rattle.std.specs.Prelude.{slice_get}
 use Rattle.gs_idl.specs.Interface.{Signature}
 use Rattle.gs_broker.specs.Broker.{workers_in, slots_in, takes_in}

@@ -1,4 +1,4 @@
-use Rattle.std.proofs.Common.{◌∙◌, sym, ap, List}
+use Rattle.std.proofs.Common.{◌∙◌, sym, ap}
 use Rattle.gs_talk.specs.Talk.{Given, State}
 use Rattle.gs_pieces.specs.Notes.{notes_of}
 use Rattle.gs_main.specs.Shown.{talking}
