@@ -36,7 +36,7 @@ done
 
 for crate in $(sed 's/#.*//; s/[ :].*//; /^$/d' crates.txt); do
     lines=$(wc -l < "crates/$crate/README.md" 2> /dev/null || echo 0)
-    [ "$lines" -ge 10 ] && [ "$lines" -le 50 ] || fail "crates/$crate/README.md has $lines lines"
+    [ "$lines" -ge 15 ] && [ "$lines" -le 65 ] || fail "crates/$crate/README.md has $lines lines"
     grep -q -w "$crate" docs/ARCHITECTURE.md || fail "docs/ARCHITECTURE.md: no $crate"
 done
 
