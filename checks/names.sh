@@ -30,7 +30,7 @@ for page in $pages; do
     awk '/^```/ { fenced = !fenced } !fenced { count = split($0, parts, "`"); for (i = 2; i <= count; i += 2) print parts[i] }' "$page" |
         tr ' ' '\n' | grep -E '^[A-Za-z0-9_.-]+(/[A-Za-z0-9_.-]+)*(/|\.(sh|md|antt|rt|txt|edit))?$' |
         grep -E '^((crates|docs|checks|examples|measures|\.ci|specs|src|proofs|must-fail|gs[a-z_]*)/.+|.+\.(sh|md|antt|rt|edit))$' |
-        grep -v '/out$' | sort -u > "$work/names"
+        grep -v '/out$\|/NAME' | sort -u > "$work/names"
     while read -r name; do there "$page" "$name" || fail "$page: no $name"; done < "$work/names"
 done
 
