@@ -182,7 +182,7 @@ fn finals_rise(places: &[usize], writings: usize, finals: &[FinalNote]) -> bool
 }
 
 /// What must hold of the note as a whole.
-fn is_gate(alloc: Global, g: &GateNote) -> Result<bool, NoMemory>
+pub fn is_gate(alloc: Global, g: &GateNote) -> Result<bool, NoMemory>
     ensures { IfOk result (λ b. b ≡ gate_ok g.now) }
 {
     let actions = g.actions.items();

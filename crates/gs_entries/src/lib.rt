@@ -5,6 +5,7 @@ mod actions;
 mod book;
 mod entry;
 mod failure;
+mod fits;
 mod gate;
 mod notes;
 mod payload;
@@ -13,6 +14,7 @@ mod spelled;
 pub use book::Book;
 pub use entry::{Entry, GateNote, Stage, Texts};
 pub use failure::Failure;
+pub use fits::{Fitting, is_gate_entry};
 pub use payload::{decode, encode};
 pub use spelled::Spelled;
 

@@ -231,7 +231,7 @@ fn begins_with_letter(bytes: &[u8]) -> bool
 }
 
 /// A letter or `_`, then letters, digits and `_`, 1 to 64 bytes.
-fn is_identifier(bytes: &[u8]) -> bool
+pub fn is_identifier(bytes: &[u8]) -> bool
     ensures { result ≡ notes.is_identifier bytes.now }
 {
     bytes.len() <= 64 && begins_with_letter(bytes) && are_word_bytes(bytes)

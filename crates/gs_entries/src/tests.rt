@@ -1,7 +1,7 @@
 // Entries as bytes and in order.
-use crate::{Book, Entry, Failure, Stage, decode, encode};
+use crate::{Book, Entry, Failure, GateNote, Stage, decode, encode, is_gate_entry};
 use gs_fields::{put_blob, put_u32};
-use gs_types::{NoMemory, Note};
+use gs_types::{Blob, NoMemory, Note, PRINTED_LIMIT, Sequence};
 use std::alloc::Global;
 use std::test::Fail;
 
@@ -111,6 +111,30 @@ fn a_gate_that_breaks_a_rule_is_refused(rt: HostRuntime) -> Result<(), Fail> {
     // a final of a name that isn't written first there, and of no name
     assert!(rt; !is_entry(alloc, &changed_gate(alloc, 19, 0)?));
     assert!(rt; !is_entry(alloc, &changed_gate(alloc, 37, 2)?));
+    Ok(())
+}
+
+/// The note of the full gate.
+fn full_note(alloc: Global) -> Result<GateNote, Failure> {
+    match decode(alloc, &full_gate(alloc)?)? {
+        Entry::Gate { g } => Ok(g),
+        _ => Err(Failure::NotEntry),
+    }
+}
+
+#[test]
+fn a_note_is_told_to_be_a_gate_within_the_limits_alone(rt: HostRuntime) -> Result<(), Fail> {
+    let alloc = rt.alloc();
+    let mut note = full_note(alloc)?;
+    assert!(rt; is_gate_entry(alloc, &note)?);
+    note.text = Blob::of(vec![in alloc; b'x'; PRINTED_LIMIT]?);
+    assert!(rt; is_gate_entry(alloc, &note)?);
+    note.text = Blob::of(vec![in alloc; b'x'; PRINTED_LIMIT + 1]?);
+    assert!(rt; !is_gate_entry(alloc, &note)?);
+    // names that stand in no action
+    let mut other = full_note(alloc)?;
+    other.actions = Sequence::new(alloc);
+    assert!(rt; !is_gate_entry(alloc, &other)?);
     Ok(())
 }
 
