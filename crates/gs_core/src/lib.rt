@@ -10,6 +10,7 @@ mod losing;
 mod machine;
 mod stage;
 mod starting;
+mod telling;
 mod turning;
 mod verdict;
 

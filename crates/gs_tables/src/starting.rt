@@ -1,7 +1,7 @@
 // Tasks that start and finish.
 #![tactic(auto, unfolding(crate::specs::Table::followers_of, crate::specs::Table::is_open, crate::specs::Table::entry_of, crate::specs::Table::mains_in, crate::specs::Table::looked_in))]
 
-ghost use Rattle.std.specs.Prelude.{◌≡◌, ◌<◌, ◌+◌, ◌≤◌, ◌∷◌, ℕ, true, false, List, length, slice_get, IfOk, IfSome, OnOk, Some, None, Option, option_copied};
+ghost use Rattle.std.specs.Prelude.{◌≡◌, ◌<◌, ◌+◌, ◌≤◌, ◌∷◌, ℕ, true, false, List, length, slice_get, IfOk, IfSome, OnOk, Some, None, Option, option_copied, option_map};
 ghost use Rattle.gs_types.specs.History.{History, finished};
 ghost use Rattle.gs_types.specs.declared.value.Value as value;
 ghost use Rattle.gs_idl.specs.Interface.{params_at};
@@ -154,6 +154,17 @@ impl Tables {
                 let args = args_of(self.alloc, &self.rows, row, idl)?;
                 Ok(Some((row.op, args)))
             }
+        }
+    }
+
+    /// The operation of task `n`; `None` exactly where no such task was called.
+    pub fn operation(&self, n: u32) -> Option<u8>
+        ensures { (s : Setup) (k : ℕ) (h : History) → Holds self.now s k h →
+            result ≡ option_map (λ t. t.op) (task_at (world_at s k).tasks n) }
+    {
+        match row_at(&self.rows, n) {
+            None => None,
+            Some(row) => Some(row.op),
         }
     }
 
