@@ -1,0 +1,6 @@
+pub mod Noting
+pub mod Reading
+pub mod Joining
+pub mod Keeping
+pub mod Causing
+pub mod TaskFiles
