@@ -1,0 +1,5 @@
+pub mod Origin
+pub mod Standing
+pub mod Stands
+pub mod Lives
+pub mod Called
