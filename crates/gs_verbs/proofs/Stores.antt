@@ -12,17 +12,13 @@ use Rattle.gs_entries.specs.declared.entry.Entry.TheVariants as made
 use Rattle.gs_types.specs.declared.note.Version.{Version}
 use Rattle.gs_report.specs.Report.{kept_of}
 use Rattle.gs_store.specs.Keeps.{spelled, HasEntries}
-use Rattle.gs_store.specs.Loading.{IsStoreOf, HasBadRecord, HasLost}
-use Rattle.gs_store.specs.State.{StoreState}
 use Rattle.gs_store.specs.Versions.{Kept, len_of, AllStand, outs_kept, finals_kept, kept_in, IsFirstLost}
-use Rattle.gs_verbs.specs.Finding.{IsBad}
 use Rattle.gs_verbs.specs.Laws.{HasOneStore, HasNoBadStore}
-use Rattle.gs_verbs.specs.declared.stops.BadStore.{BadStore}
 use Rattle.gs_verbs.specs.declared.stops.BadStore.TheVariants.{Log, Record, Lost}
 
 not_none : {A : Type 0} (o : Option A) → IsSome o → o ≡ None → ⊥
-not_none (Some x) some e = cc
-not_none None some e = some
+not_none (Some x) some e = absurd cc
+not_none None some e = absurd cc
 
 some_is : (x y : List ℕ) → Some x ≡ Some y → x ≡ y
 some_is x y e = cc
@@ -36,10 +32,13 @@ lists_same f es fs (inl h) (inr none) = absurd (not_none (f mark_name) h.marked 
 lists_same f es fs (inr none) (inl k) = absurd (not_none (f mark_name) k.marked none.0)
 lists_same f es fs (inr none) (inr nothing) = ap spelled (none.1 ∙ sym nothing.1)
 
+abbrev ok_of : List Entry → Result (List Entry) ℕ
+ok_of es = Ok es
+
 entries_same : (es fs : List Entry) → records [] (spelled es) ≡ Ok es
     → records [] (spelled fs) ≡ Ok fs → spelled es ≡ spelled fs → es ≡ fs
 entries_same es fs a b same =
-    let both : Ok {E = ℕ} es ≡ Ok fs = sym a ∙ ap (records []) same ∙ b in cc
+    let both : ok_of es ≡ ok_of fs = sym a ∙ ap (records []) same ∙ b in cc
 
 pub has_one : HasOneStore
 has_one f a b s t = entries_same a.entries b.entries s.read t.read
@@ -61,8 +60,11 @@ records_next es p ps o is =
       | None ↦ Err (length es)
     ]) is
 
-not_ok : (n : ℕ) (es : List Entry) → Err {T = List Entry} n ≡ Ok es → ⊥
-not_ok n es e = cc
+abbrev err_of : ℕ → Result (List Entry) ℕ
+err_of n = Err n
+
+not_ok : (n : ℕ) (es : List Entry) → err_of n ≡ ok_of es → ⊥
+not_ok n es e = absurd cc
 
 -- payloads of which one is no entry behind the others aren't read
 stuck : (before : List (List ℕ)) (es read all : List Entry) (bad : List ℕ)

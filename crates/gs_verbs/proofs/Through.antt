@@ -1,5 +1,5 @@
 -- A command that can be served is, unless a count rises or memory is wanting.
-use Rattle.std.proofs.Common.{◌≡◌, ◌⊎◌, inl, inr, refl, sym, ap, ◌∙◌, subst, arith, ℕ, ◌<◌, List, length, Option, Some, None, Result, Ok, Err}
+use Rattle.std.proofs.Common.{◌≡◌, ◌⊎◌, inl, inr, refl, sym, ◌∙◌, subst, arith, ℕ, List, length, Option, Some, None, Result, Ok, Err}
 use Rattle.std.specs.Prelude.{IsSome}
 use Rattle.gs_types.specs.Counts.{Rises}
 use Rattle.gs_disk.specs.Folder.{Folder, DiskState}
@@ -16,7 +16,7 @@ use Rattle.gs_store.proofs.Gating.{has_ended}
 use Rattle.gs_verbs.specs.Finding.{IsBad}
 use Rattle.gs_verbs.specs.Reporting.{HasStore, RanReport}
 use Rattle.gs_verbs.specs.Cleaning.{HasGated, RanClean}
-use Rattle.gs_verbs.specs.Planning.{HasInterface, IsUnusable, IsWanting, IsPlanOf, IsNoPlan, Finds, IsPlanIn, IsNoPlanIn, HasPlan, RanPlan}
+use Rattle.gs_verbs.specs.Planning.{HasInterface, IsUnusable, IsWanting, IsPlanOf, IsNoPlan, IsPlanIn, IsNoPlanIn, HasPlan, RanPlan}
 use Rattle.gs_verbs.specs.declared.stops.BadStore.{BadStore}
 use Rattle.gs_verbs.specs.declared.stops.BadStore.TheVariants.{Log, Record, Lost}
 use Rattle.gs_verbs.specs.declared.stops.ReportStop.{ReportStop}
@@ -99,15 +99,15 @@ planned_so slots es file bytes plans.Memory plan why ample = ample tt
 
 planned_in : (slots : ℕ) (folder : Folder) (name bytes : List ℕ) (stop : PlanStop)
     → IsPlanIn slots folder name bytes → IsNoPlanIn folder name stop → (IsWanting stop → ⊥) → ⊥
-planned_in slots folder name bytes stop plan no ample =
+planned_in slots folder name bytes stop plan non ample =
     let a = plan.finds in
-    let b = no.finds in
-    let file = some_one (folder name) no.file plan.file b.there a.there in
-    let entries : no.es ≡ plan.es = b.entries ∙ has_one folder b.store a.store b.found a.found
+    let b = non.finds in
+    let file = some_one (folder name) non.file plan.file b.there a.there in
+    let entries : non.es ≡ plan.es = b.entries ∙ has_one folder b.store a.store b.found a.found
     ∙ sym a.entries in
     planned_so slots plan.es plan.file bytes stop plan.plan
     (subst (λ (es : List Entry). IsNoPlan es plan.file stop) entries
-    (subst (λ (f : List ℕ). IsNoPlan no.es f stop) file no.why)) ample
+    (subst (λ (f : List ℕ). IsNoPlan non.es f stop) file non.why)) ample
 
 pub plan_through : (told wrote : Type 0) (d e : DiskState) (o p : ℕ) (v w : List ℕ) (slots : ℕ)
     (name : List ℕ) (r : Result Unit PlanStop) → RanPlan told wrote d e o p v w slots name r → told

@@ -1,8 +1,7 @@
 -- The store of a folder: what it is, or why there is none.
-use Rattle.std.specs.Prelude.{◌≡◌, ℕ, ◌≤◌, Result, Ok, Err}
+use Rattle.std.specs.Prelude.{ℕ, ◌≤◌, Result, Ok, Err}
 use Rattle.gs_types.specs.Counts.{Rises}
 use Rattle.gs_disk.specs.Folder.{Folder}
-use Rattle.gs_store.specs.State.{StoreState}
 use Rattle.gs_store.specs.Loading.{Refuses}
 use Rattle.gs_store.specs.declared.err.StoreErr.{StoreErr}
 use Rattle.gs_store.specs.declared.err.StoreErr.TheVariants.{BadLog, BadRecord, LostVersion, DiskFault, NoMemory}

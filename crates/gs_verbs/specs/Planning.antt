@@ -69,6 +69,17 @@ pub record ReadEnds {T : Type 0} (old new : ℕ) (result : Result T PlanStop) : 
   pub rise : old ≤ new
   pub cause : IsCaused old new result
 
+-- it fails for no fault of a disk or an output, and not for want of the file
+abbrev pub FailsAlone : {T : Type 0} → Result T PlanStop → Type 0
+FailsAlone (Ok x) = Unit {0}
+FailsAlone (Err NoText) = ⊥
+FailsAlone (Err (BadText line kind)) = Unit {0}
+FailsAlone (Err (Store bad)) = Unit {0}
+FailsAlone (Err NoRun) = Unit {0}
+FailsAlone (Err Disk) = ⊥
+FailsAlone (Err Sink) = ⊥
+FailsAlone (Err Memory) = Unit {0}
+
 -- the file says no durations, with its first fault; or memory was wanting
 abbrev pub IsUnread : List Signature → List ℕ → PlanStop → Type 0
 IsUnread ops file NoText = ⊥

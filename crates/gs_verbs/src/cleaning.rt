@@ -5,8 +5,9 @@ ghost use Rattle.gs_disk.specs.Moments.{Passes};
 ghost use Rattle.gs_verbs.specs.Cleaning.{stop_of_disk, MayEnds, MayTold, RanClean, Removed};
 
 use crate::CleanStop;
+use crate::loading::{Unloaded, load};
 use gs_disk::{Disk, DiskErr};
-use gs_store::{Stage, Store, StoreErr};
+use gs_store::Stage;
 use std::alloc::Global;
 
 // Whether the store may go: it doesn't load, or not as one whose results are still to be handed
@@ -17,15 +18,14 @@ fn may_clean<D: Disk>(alloc: Global, disk: &mut D) -> Result<(), CleanStop>
     ensures images { D.tells → Passes Same (D.state disk.old) (D.state disk.new) }
     ensures cause { MayEnds (D.state disk.old).faults (D.state disk.new).faults result }
 {
-    match Store::load(alloc, disk) {
+    match load(alloc, disk) {
         Ok(store) => match store.stage() {
             Stage::Gated => Err(CleanStop::Gated),
-            Stage::Fresh | Stage::Running | Stage::Closed => Ok(()),
+            _ => Ok(()),
         },
-        Err(StoreErr::DiskFault) => Err(CleanStop::Disk),
-        Err(StoreErr::NoMemory) => Err(CleanStop::Memory),
-        Err(StoreErr::BadLog { .. } | StoreErr::BadRecord { .. } | StoreErr::LostVersion { .. }) =>
-            Ok(()),
+        Err(Unloaded::Bad { bad: _ }) => Ok(()),
+        Err(Unloaded::Disk) => Err(CleanStop::Disk),
+        Err(Unloaded::Memory) => Err(CleanStop::Memory),
     }
 }
 

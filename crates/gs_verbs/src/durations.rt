@@ -3,7 +3,7 @@ ghost use Rattle.std.specs.Prelude.{◌≡◌, ℕ, List, IfOk, MatchResult, len
 ghost use Rattle.gs_disk.specs.Folder.{Same};
 ghost use Rattle.gs_disk.specs.Moments.{Passes};
 ghost use Rattle.gs_plan.specs.Durations.{Says, AreDurations};
-ghost use Rattle.gs_verbs.specs.Planning.{IsTextOf, ReadTold, ReadEnds, IsUnread};
+ghost use Rattle.gs_verbs.specs.Planning.{IsTextOf, ReadTold, ReadEnds, FailsAlone, IsUnread};
 
 use crate::PlanStop;
 use gs_disk::{Disk, DiskErr, DiskName, Whole, read_whole};
@@ -49,6 +49,7 @@ pub(crate) fn durations_in(alloc: Global, text: &Text, idl: &Idl) -> Result<Vec<
     ensures says { (file : List ℕ) → IsTextOf file text.now
         → MatchResult result (λ v. Says idl.now.ops file v.items) (IsUnread idl.now.ops file) }
     ensures fit { IfOk result (λ v. AreDurations (length idl.now.ops) v.items) }
+    ensures ends { FailsAlone result }
 {
     match text {
         Text::Long => Err(PlanStop::BadText {

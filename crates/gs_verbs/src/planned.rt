@@ -7,7 +7,7 @@ ghost use Rattle.gs_plan.specs.Durations.{AreDurations};
 ghost use Rattle.gs_plan.specs.Fits.{Fit};
 ghost use Rattle.gs_plan.specs.declared.planning.TheConstants.{PLAN_SLOTS};
 ghost use Rattle.gs_store.specs.Ordered.{texts_of, gate_in, HasEnded};
-ghost use Rattle.gs_verbs.specs.Planning.{HasInterface, IsNoInterface, IsTextOf, IsPlanned, IsWanting, IsPlanOf, IsNoPlan};
+ghost use Rattle.gs_verbs.specs.Planning.{HasInterface, IsNoInterface, IsTextOf, IsPlanned, IsWanting, FailsAlone, IsPlanOf, IsNoPlan};
 
 use crate::durations::{Text, durations_in};
 use crate::{BadStore, PlanStop};
@@ -22,8 +22,11 @@ fn header(store: &Store) -> &Texts
     requires { HasEnded (stage_of store.now.entries) }
     ensures { texts_of store.now.entries ≡ Some result.now }
 {
-    match store.entry(0) {
-        Some(Entry::Header { t }) => t,
+    let Some(first) = store.entry(0) else {
+        unreachable!()
+    };
+    match first {
+        Entry::Header { t } => t,
         _ => unreachable!(),
     }
 }
@@ -89,9 +92,10 @@ pub(crate) fn plan_of(
 ) -> Result<Blob, PlanStop>
     requires some { 1 ≤ slots }
     requires few { slots ≤ PLAN_SLOTS }
-    ensures { (file : List ℕ) → IsTextOf file text.now
+    ensures plan { (file : List ℕ) → IsTextOf file text.now
         → MatchResult result (IsPlanOf slots store.now.entries file)
         (IsNoPlan store.now.entries file) }
+    ensures ends { FailsAlone result }
 {
     let Some(g) = store.gate_note() else {
         return Err(PlanStop::NoRun);
