@@ -1,5 +1,6 @@
 -- What the words of the command line ask for.
-use Rattle.std.specs.Prelude.{Result, Ok, Err}
+use Rattle.std.specs.Prelude.{◌≤◌, Result, Ok, Err}
+use Rattle.gs_plan.specs.declared.planning.TheConstants.{PLAN_SLOTS}
 use Rattle.gs_words.specs.declared.command.Command.{Command}
 use Rattle.gs_words.specs.declared.command.Command.TheVariants.{Run, Check, Report, Clean, SelfRun, Plan}
 use Rattle.gs_words.specs.declared.command.Usage.{Usage}
@@ -27,3 +28,13 @@ IsNothing (Ok Clean) = ⊥
 IsNothing (Ok (SelfRun seed n)) = Unit {0}
 IsNothing (Ok (Plan slots durations)) = ⊥
 IsNothing (Err usage) = Unit {0}
+
+-- a plan is for one slot at least, and at most for so many
+abbrev pub HasSlots : Wish → Type 0
+HasSlots (Ok (Run idl program workers settings)) = Unit {0}
+HasSlots (Ok (Check idl program)) = Unit {0}
+HasSlots (Ok Report) = Unit {0}
+HasSlots (Ok Clean) = Unit {0}
+HasSlots (Ok (SelfRun seed n)) = Unit {0}
+HasSlots (Ok (Plan slots durations)) = (1 ≤ slots) × (slots ≤ PLAN_SLOTS)
+HasSlots (Err usage) = Unit {0}

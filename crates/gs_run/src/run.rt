@@ -20,7 +20,7 @@ ghost use Rattle.gs_words.specs.declared.command.Command.TheVariants as commands
 ghost use Rattle.gs_verbs.specs.Reporting.{HasStore};
 ghost use Rattle.gs_verbs.specs.Cleaning.{HasGated};
 ghost use Rattle.gs_verbs.specs.Planning.{HasPlan};
-ghost use Rattle.gs_run.specs.Asked.{Wish, IsNoRun, IsNothing};
+ghost use Rattle.gs_run.specs.Asked.{Wish, HasSlots, IsNoRun, IsNothing};
 ghost use Rattle.gs_run.specs.Checking.{HoldsBoth};
 ghost use Rattle.gs_run.specs.Did.{Did};
 ghost use Rattle.gs_run.specs.Ran.{Ran, run_in, IsStatusOf};
@@ -32,8 +32,8 @@ use crate::Stop;
 use crate::checking::check_texts;
 use crate::handing::{halted, hand_over, handed};
 use crate::judge::judge;
-use crate::refusal::stopped;
 use crate::names::{CheckWords, Words};
+use crate::refusal::stopped;
 use crate::verbs::{cleaned, planned, reported};
 use gs_check::Checked;
 use gs_disk::Disk;
@@ -96,7 +96,8 @@ fn serve<D: Disk, K: Link, O: Sink>(
     site: &mut Site<D, K>,
     out: &mut O,
 ) -> Result<(), Stop>
-    requires { IsIdle (K.jobs (link_of site.old)) }
+    requires idle { IsIdle (K.jobs (link_of site.old)) }
+    requires slots { HasSlots command }
     ensures idle { IsIdle (K.jobs (link_of site.new)) }
     ensures did { Did D.tells O.tells (D.state (disk_of site.old)) (D.state (disk_of site.new))
         (K.L.meaning (K.law (link_of site.old)))
@@ -109,12 +110,14 @@ fn serve<D: Disk, K: Link, O: Sink>(
         → (disk_of site.new ≡ disk_of site.old) × (out.new ≡ out.old) }
 {
     match command {
-        Ok(Command::Run {
-            idl,
-            program,
-            workers,
-            settings,
-        }) => {
+        Ok(
+            Command::Run {
+                idl,
+                program,
+                workers,
+                settings,
+            },
+        ) => {
             let words = Words {
                 idl,
                 program,

@@ -4,8 +4,13 @@ use Rattle.gs_site.specs.Site.{disk_of, link_of}
 use Rattle.gs_run.specs.Ran.{IsStatusOf}
 use Rattle.gs_run.proofs.Checks.{checks_so}
 use Rattle.gs_run.proofs.Conclusions.{ends_so, did_run, did_check, did_report, did_clean, did_plan}
-use Rattle.gs_run.proofs.Serving.{report_so, clean_so, plan_so}
+use Rattle.gs_run.proofs.Serving.{has_slots, report_so, clean_so, plan_so}
 use Rattle.gs_run.proofs.run.gs.Goals as goal
+
+pub serve-answer-requires-clause-slots : goal.serve-answer-requires-clause-slots
+serve-answer-requires-clause-slots g c =
+    has_slots (map string_bytes c.args.words.now.items) c.read-command.result
+    c.read-command.ensures
 
 pub returns-clause-did : goal.returns-clause-did
 returns-clause-did g c = (
