@@ -1,5 +1,5 @@
 -- What a call did, by where it stopped.
-use Rattle.std.proofs.Common.{◌≡◌, ◌⊎◌, ℕ, ◌+◌, ◌≤◌, List, [], ◌∷◌, ◌++◌, length, Option, Some, None, Result, Ok, Err, refl, sym, ◌∙◌, ap, subst, inl, inr, arith}
+use Rattle.std.proofs.Common.{◌≡◌, ◌⊎◌, ℕ, ◌+◌, ◌≤◌, List, [], Option, Some, None, Result, Ok, Err, refl, sym, ◌∙◌, ap, subst, inl, inr, arith}
 use Rattle.std.specs.Prelude.{option_map}
 use Rattle.gs_types.specs.Counts.{Rises}
 use Rattle.gs_types.specs.Job.{Meaning}
@@ -13,10 +13,10 @@ use Rattle.gs_form.specs.declared.worker.Worker.{Worker}
 use Rattle.gs_talk.specs.declared.question.Question.{Question}
 use Rattle.gs_talk.specs.declared.question.Question.TheVariants as q
 use Rattle.gs_talk.specs.Talk.{dialogue}
-use Rattle.gs_talk.specs.Seq.{Known, Run, seq, last_of, EndsIn}
+use Rattle.gs_talk.specs.Seq.{Known, Run, last_of, EndsIn}
 use Rattle.gs_talk_laws.proofs.Ends.{ends_stay}
 use Rattle.gs_main.specs.Talking.{Talking, Goes, first_talking}
-use Rattle.gs_serial.specs.Files.{over, changed_files, KeepsUnchanged}
+use Rattle.gs_serial.specs.Files.{over, KeepsUnchanged}
 use Rattle.gs_serial.specs.Run.{TurnEnds, PlayTold, RanOut, RanUntil, Begins, run_of}
 use Rattle.gs_serial.specs.declared.changed.Changed.{Changed}
 use Rattle.gs_serial.specs.declared.play.Halt.{Halt}

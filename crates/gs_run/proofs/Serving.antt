@@ -1,13 +1,10 @@
 -- Commands that can be served end with status 0 or 12, where no count rises.
-use Rattle.std.proofs.Common.{◌≡◌, ◌⊎◌, inl, inr, refl, sym, subst, ap, ◌∙◌, ⊎_elim, ℕ, List, Result, Ok, Err}
+use Rattle.std.proofs.Common.{◌≡◌, ◌⊎◌, inl, inr, ap, ◌∙◌, ⊎_elim, ℕ, List, Result, Ok, Err}
 use Rattle.gs_types.specs.Counts.{Rises}
 use Rattle.gs_disk.specs.Folder.{DiskState}
-use Rattle.gs_verbs.specs.Reporting.{HasStore, RanReport}
-use Rattle.gs_verbs.specs.Cleaning.{HasGated, RanClean}
-use Rattle.gs_verbs.specs.Planning.{HasPlan, RanPlan}
-use Rattle.gs_verbs.specs.declared.stops.ReportStop.{ReportStop}
-use Rattle.gs_verbs.specs.declared.stops.CleanStop.{CleanStop}
-use Rattle.gs_verbs.specs.declared.stops.PlanStop.{PlanStop}
+use Rattle.gs_verbs.specs.Reporting.{HasStore}
+use Rattle.gs_verbs.specs.Cleaning.{HasGated}
+use Rattle.gs_verbs.specs.Planning.{HasPlan}
 use Rattle.gs_words.specs.Usage.{IsReading}
 use Rattle.gs_words.specs.declared.command.Command.TheVariants.{Run, Check, Report, Clean, SelfRun, Plan}
 use Rattle.gs_verbs.proofs.Through.{report_through, clean_through, plan_through}
@@ -53,34 +50,3 @@ has_slots ws (Ok Clean) is = tt
 has_slots ws (Ok (SelfRun seed n)) is = tt
 has_slots ws (Ok (Plan slots durations)) is = (is.slots_say.some, is.slots_say.within)
 has_slots ws (Err usage) is = tt
-
--- ---- what was done, by the answers of the commands
-
-pub reported_so : (told wrote : Type 0) (c d e : DiskState) (o p : ℕ) (v w : List ℕ)
-    (r : Result Unit ReportStop) (answer : Result Unit Stop) → c ≡ d → answer ≡ report_answer r
-    → RanReport told wrote d e o p v w r → Reported told wrote c e o p v w answer
-reported_so told wrote c d e o p v w r answer same is ran = record {
-  result = r;
-  ran = subst (λ (s : DiskState). RanReport told wrote s e o p v w r) (sym same) ran;
-  is = is;
-}
-
-pub cleaned_so : (told wrote : Type 0) (c d e : DiskState) (v : List ℕ)
-    (r : Result Unit CleanStop) (answer : Result Unit Stop) → c ≡ d → answer ≡ clean_answer r
-    → RanClean told d e r → Cleaned told wrote c e v v answer
-cleaned_so told wrote c d e v r answer same is ran = record {
-  result = r;
-  ran = subst (λ (s : DiskState). RanClean told s e r) (sym same) ran;
-  is = is;
-  written = λ h. refl;
-}
-
-pub planned_for : (told wrote : Type 0) (c d e : DiskState) (o p : ℕ) (v w : List ℕ) (slots : ℕ)
-    (durations : List ℕ) (r : Result Unit PlanStop) (answer : Result Unit Stop) → c ≡ d
-    → answer ≡ plan_answer durations r → RanPlan told wrote d e o p v w slots durations r
-    → PlannedFor told wrote c e o p v w slots durations answer
-planned_for told wrote c d e o p v w slots durations r answer same is ran = record {
-  result = r;
-  ran = subst (λ (s : DiskState). RanPlan told wrote s e o p v w slots durations r) (sym same) ran;
-  is = is;
-}

@@ -1,11 +1,10 @@
-use Rattle.std.proofs.Common.{◌≡◌, ◌≤◌, sym, ◌∙◌, ap, subst, refl, Err, Ok, Result}
+use Rattle.std.proofs.Common.{◌≡◌, ◌≤◌, sym, ◌∙◌, ap, subst, refl, Err, Ok}
 use Rattle.gs_check.specs.Passing.{program_in, interface_in}
 use Rattle.gs_site.specs.Site.{disk_of, link_of}
 use Rattle.gs_main.specs.Shown.{talking}
 use Rattle.gs_serial.specs.Files.{changed_files}
 use Rattle.gs_run.specs.Handing.{handed_as, halted_as}
 use Rattle.gs_run.specs.Showing.{stop_of}
-use Rattle.gs_run.specs.declared.stop.Stop.{Stop}
 use Rattle.gs_run.specs.declared.stop.Stop.TheVariants as stop
 use Rattle.gs_disk.specs.Folder.{DiskState, Same}
 use Rattle.gs_disk.specs.Moments.{Passes}

@@ -1,6 +1,5 @@
 use Rattle.std.proofs.Common.{◌≡◌, ◌⊎◌, ℕ, map, sym, subst}
 use Rattle.std.specs.String.{string_bytes}
-use Rattle.gs_site.specs.Site.{disk_of, link_of}
 use Rattle.gs_run.specs.Ran.{IsStatusOf}
 use Rattle.gs_run.proofs.Checks.{checks_so}
 use Rattle.gs_run.proofs.Conclusions.{ends_so, did_run, did_check, did_report, did_clean, did_plan}
