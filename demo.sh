@@ -2,9 +2,8 @@
 # Proves and builds gs, runs the example study in a new folder, and shows what it left.
 set -e
 top=$(cd "$(dirname "$0")" && pwd)
-echo "== proving and building (some minutes on a fresh machine)"
-# without words the program answers with status 2, and stays built
-(cd "$top/crates/gs" && rt run) > "${TMPDIR:-/tmp}/gs-demo.log" 2>&1 || test $? -eq 2 || { tail -20 "${TMPDIR:-/tmp}/gs-demo.log"; exit 1; }
+echo "== proving and building: crates side by side, some minutes on a machine where nothing is kept"
+sh "$top/build.sh" gs
 gs="$top/crates/gs/out/gs"
 folder=$(mktemp -d)
 cp "$top"/examples/study/* "$folder"

@@ -18,4 +18,4 @@ pub mod Going
 pub mod Beginnings
 pub mod Idle
 pub mod Rosters
-mod Leaving
+pub mod Leaving

@@ -1,22 +1,22 @@
-mod Calls
-mod Numbering
-mod Amounts
-mod Moments
-mod Keeping
-mod Calm
-mod Giving
-mod Using
-mod Looking
-mod Reading
-mod Feeding
-mod Lengthening
-mod Entering
-mod Calling
-mod Beginning
-mod Noting
-mod Finishing
-mod Arguments
-mod Supplying
-mod Listing
-mod Naming
-mod Leaving
+pub mod Calls
+pub mod Numbering
+pub mod Amounts
+pub mod Moments
+pub mod Keeping
+pub mod Calm
+pub mod Giving
+pub mod Using
+pub mod Looking
+pub mod Reading
+pub mod Feeding
+pub mod Lengthening
+pub mod Entering
+pub mod Calling
+pub mod Beginning
+pub mod Noting
+pub mod Finishing
+pub mod Arguments
+pub mod Supplying
+pub mod Listing
+pub mod Naming
+pub mod Leaving
