@@ -109,7 +109,7 @@ fresh; told "a report without a store" "stage fresh" report; case_of "a removal 
 : > d; case_of "a plan without a run" 15 "gs: no run$lf" plan 2 d; case_of "a plan without its file" 3 "gs: no text: e$lf" plan 2 e
 : > .gs.on; case_of "a log that is absent" 6 "gs: bad store: log at 0$lf" report
 printf '\001\001\000\000\000\005\000' > .gs.log; case_of "a record that is none" 6 "gs: bad store: record 0$lf" plan 2 d
-case_of "a removal of a bad store" 0 "" clean; gone removal .gs.on; gone removal .gs.log; same removal A x
+case_of "a removal of a bad store" 0 "" clean; gone removal .gs.on; gone removal .gs.log; same removal B xy
 : > .gs.on; printf "$begun$gate\000" > .gs.log
 told "a report of a run that has ended" "stage gated${lf}run i p${lf}actions 1${lf}text 0" report
 case_of "a removal of results that aren't handed over" 13 "gs: gated$lf" clean
