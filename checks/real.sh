@@ -92,6 +92,31 @@ fresh; rm k.idl; ln -s k.idl k.idl; case_of "a check of an IDL that can't be ope
 fresh; "$gs" check k.idl p.c > /dev/full 2> .err
 if [ $? -eq 11 ] && [ "$(cat .err)" = "gs: sink fault" ]; then echo "ok a check whose output fails"; else echo "FAILED a check whose output fails: $(cat .err)"; failed=1; fi
 
+# more steps than are given, and as many
+fresh; printf 'main() { int i; GS_On(); while (i < 3) { i = i + 1; } GS_Off(0); }' > p.c
+case_of "a run of one step too few" 8 "gs: fuel out: 8$lf" $run --fuel 8; case_of "a run of enough steps" 0 "" $run --fuel 9
+fresh; case_of "an option without its number" 2 "gs: usage: word 5$lf" $run --fuel; gone usage C
+
+# the commands report, clean and plan: over no store, a bad one, and one whose run has ended
+begun='\001\026\000\000\000\001\001\001\000\000\000i\002\000\000\000ab\001\000\000\000p\000\000\000\000'
+gate='\001\026\000\000\000\003\000\000\000\000\000\000\000\000\000\000\000\000\000\000\000\000\001\000\000\000\006'
+told() {
+    what=$1; text=$2; shift 2
+    "$gs" "$@" > .out 2> .err
+    if [ $? -eq 0 ] && [ "$(cat .out)" = "$text" ] && [ ! -s .err ]; then echo "ok $what"; else echo "FAILED $what: $(cat .out .err)"; failed=1; fi
+}
+fresh; told "a report without a store" "stage fresh" report; case_of "a removal without a store" 0 "" clean
+: > d; case_of "a plan without a run" 15 "gs: no run$lf" plan 2 d; case_of "a plan without its file" 3 "gs: no text: e$lf" plan 2 e
+: > .gs.on; case_of "a log that is absent" 6 "gs: bad store: log at 0$lf" report
+printf '\001\001\000\000\000\005\000' > .gs.log; case_of "a record that is none" 6 "gs: bad store: record 0$lf" plan 2 d
+case_of "a removal of a bad store" 0 "" clean; gone removal .gs.on; gone removal .gs.log; same removal B xy
+: > .gs.on; printf "$begun$gate\000" > .gs.log
+told "a report of a run that has ended" "stage gated${lf}run i p${lf}actions 1${lf}text 0" report
+case_of "a removal of results that aren't handed over" 13 "gs: gated$lf" clean
+case_of "a plan of an interface that doesn't read" 6 "gs: bad store: record 0$lf" plan 2 d
+"$gs" report > /dev/full 2> .err
+if [ $? -eq 11 ] && [ "$(cat .err)" = "gs: sink fault" ]; then echo "ok a report whose output fails"; else echo "FAILED a report whose output fails: $(cat .err)"; failed=1; fi
+
 # an input of the limit's length, and one byte more
 fresh
 : > B

@@ -1,5 +1,5 @@
 // Main programs with loops, prints, files of their own, and values of tasks.
-use crate::desk::{LIST, Outcome, reads, run_files};
+use crate::desk::{LIST, Outcome, disk_of, reads, run, run_files};
 use std::alloc::Global;
 use std::process::Abort;
 use std::test::Fail;
@@ -130,5 +130,22 @@ fn each_fault_of_a_program_has_its_line_and_leaves_the_files(rt: HostRuntime) ->
         assert!(rt; reads(&rt, &made.disk, b"F1", b""));
         assert!(rt; made.out.bytes().is_empty());
     }
+    Ok(())
+}
+
+#[test]
+fn a_run_takes_as_many_steps_as_it_is_given(rt: HostRuntime) -> Result<(), Fail> {
+    let alloc = rt.alloc();
+    let program = b"main() { int i; GS_On(); while (i < 3) { i = i + 1; } GS_Off(0); }";
+    let files: [(&[u8], &[u8]); 3] = [(b"k.idl", KIT), (b"p.c", program), (b"w.txt", LIST)];
+    let disk = disk_of(&rt, alloc, &files)?;
+    let words = ["run", "k.idl", "p.c", "w.txt", "--fuel", "8"];
+    let made = run(alloc, &words, disk, Vec::new(alloc), Vec::new(alloc))?;
+    assert_eq!(rt; made.status, 8);
+    assert_eq!(rt; made.err.bytes(), b"gs: fuel out: 8\n".as_slice());
+    let disk = disk_of(&rt, alloc, &files)?;
+    let words = ["run", "k.idl", "p.c", "w.txt", "--fuel", "9"];
+    let made = run(alloc, &words, disk, Vec::new(alloc), Vec::new(alloc))?;
+    assert_eq!(rt; made.status, 0);
     Ok(())
 }

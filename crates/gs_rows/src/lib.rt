@@ -20,4 +20,6 @@ mod rows;
 #[cfg(test)]
 mod values;
 #[cfg(test)]
+mod verbs;
+#[cfg(test)]
 mod whole;

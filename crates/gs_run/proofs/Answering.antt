@@ -57,3 +57,20 @@ fault_line r w0 w1 w2 w3 front line line_is gap kind kind_is end same_line same_
     flat : (w0 front line gap kind end : List ℕ) → ((w0 ++ front) ++ (line ++ (gap ++ kind))) ++ end
         ≡ w0 ++ (front ++ (line ++ (gap ++ (kind ++ end))))
     flat w0 front line gap kind end = simp (append_assoc {A = ℕ}) refl
+
+-- the line of a version that is lost, in its three pieces
+pub lost_line : (r : Result Unit SinkFailed) (w0 w1 w2 w3 front name name_is gap len len_is
+    back : List ℕ) → name ≡ name_is → len ≡ len_is → w1 ≡ w0 ++ (front ++ (name ++ gap))
+    → w2 ≡ w1 ++ len → OnOk r (w3 ≡ w2 ++ back)
+    → OnOk r (w3 ≡ w0 ++ (front ++ (name_is ++ (gap ++ (len_is ++ back)))))
+lost_line r w0 w1 w2 w3 front name name_is gap len len_is back same_name same_len one two =
+    on_ok_more r _ _ (λ three.
+    let whole : List ℕ → List ℕ → List ℕ = λ (n l : List ℕ). ((w0 ++ (front ++ (n ++ gap))) ++ l)
+    ++ back in
+    three ∙ ap (λ (x : List ℕ). x ++ back) (two ∙ ap (λ (x : List ℕ). x ++ len) one)
+    ∙ ap (λ (n : List ℕ). whole n len) same_name ∙ ap (λ (l : List ℕ). whole name_is l) same_len
+    ∙ flat w0 front name_is gap len_is back)
+  where
+    flat : (w0 front name gap len back : List ℕ) → ((w0 ++ (front ++ (name ++ gap))) ++ len) ++ back
+        ≡ w0 ++ (front ++ (name ++ (gap ++ (len ++ back))))
+    flat w0 front name gap len back = simp (append_assoc {A = ℕ}) refl

@@ -231,6 +231,12 @@ checks_through told wrote old new o1 o2 w1 w2 i p (stop.Fault line k) ran t h di
 checks_through told wrote old new o1 o2 w1 w2 i p (stop.FuelOut fuel) ran t h disk out =
     absurd ran.cause
 checks_through told wrote old new o1 o2 w1 w2 i p (stop.Lost n) ran t h disk out = absurd ran.cause
+checks_through told wrote old new o1 o2 w1 w2 i p (stop.BadStore why) ran t h disk out =
+    absurd ran.cause
+checks_through told wrote old new o1 o2 w1 w2 i p stop.Gated ran t h disk out =
+    absurd ran.cause
+checks_through told wrote old new o1 o2 w1 w2 i p stop.NoRun ran t h disk out =
+    absurd ran.cause
 checks_through told wrote old new o1 o2 w1 w2 i p stop.Disk ran t h disk out =
     absurd (disk ran.cause)
 checks_through told wrote old new o1 o2 w1 w2 i p stop.Sink ran t h disk out =

@@ -71,6 +71,7 @@ both_interface i p i_name p_name (BadText n line (kind.Idl k)) h = subst (λ (x 
     IsWrong i p i_name p_name x line (kind.Idl k)) (sym h.0) (interface h.1.0 line k h.1.1 h.1.2)
 both_interface i p i_name p_name (BadText n line (kind.Program k)) h = absurd h.1
 both_interface i p i_name p_name (BadText n line (kind.Check k)) h = absurd h.1
+both_interface i p i_name p_name (BadText n line (kind.Durations k)) h = absurd h.1
 both_interface i p i_name p_name (BadText n line kind.NotYet) h = absurd h.1
 both_interface i p i_name p_name Disk h = absurd h
 both_interface i p i_name p_name Memory h = tt
@@ -84,6 +85,7 @@ both_tree i p i_name p_name one (BadText n line (kind.Program k)) has h = subst 
     IsWrong i p i_name p_name x line (kind.Program k)) (sym h.0) (program one h.1.0 line k has h.1.1
     h.1.2)
 both_tree i p i_name p_name one (BadText n line (kind.Check k)) has h = absurd h.1
+both_tree i p i_name p_name one (BadText n line (kind.Durations k)) has h = absurd h.1
 both_tree i p i_name p_name one (BadText n line kind.NotYet) has h = absurd h.1
 both_tree i p i_name p_name one Disk has h = absurd h
 both_tree i p i_name p_name one Memory has h = tt

@@ -2,5 +2,5 @@ pub mod Answering
 pub mod Checks
 pub mod Conclusions
 pub mod Judgements
+pub mod Serving
 pub mod Verdicts
-pub mod Wording

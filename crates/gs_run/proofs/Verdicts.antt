@@ -1,6 +1,5 @@
 -- What the texts of a run say.
 use Rattle.std.proofs.Common.{◌≡◌, ℕ, List, Option, Some, None, sym, ◌∙◌, subst, arith}
-use Rattle.gs_disk.specs.Folder.{Folder}
 use Rattle.gs_idl.specs.Interface.{Interface}
 use Rattle.gs_idl.specs.Grammar as idl
 use Rattle.gs_idl.proofs.Saying.{says_one}

@@ -1,34 +1,40 @@
 -- What the words of the command line ask for.
-use Rattle.std.specs.Prelude.{ℕ, List, Result, Ok, Err}
-use Rattle.gs_run.specs.Words.{IsRun, IsCheck, IsUsage}
-use Rattle.gs_run.specs.declared.words.Command.{Command}
-use Rattle.gs_run.specs.declared.words.Command.TheVariants.{Run, Check}
+use Rattle.std.specs.Prelude.{◌≤◌, Result, Ok, Err}
+use Rattle.gs_plan.specs.declared.planning.TheConstants.{PLAN_SLOTS}
+use Rattle.gs_words.specs.declared.command.Command.{Command}
+use Rattle.gs_words.specs.declared.command.Command.TheVariants.{Run, Check, Report, Clean, SelfRun, Plan}
+use Rattle.gs_words.specs.declared.command.Usage.{Usage}
 
--- a run or a check of these names; or nothing, and the words go wrong at this place
-pub data Wish : Type 0 where
-  a_run : (idl program workers : List ℕ) → Wish
-  a_check : (idl program : List ℕ) → Wish
-  nothing : (at : ℕ) → Wish
-
--- the words ask for this
-abbrev pub Asks : List (List ℕ) → Wish → Type 0
-Asks words (a_run idl program workers) = IsRun words idl program workers
-Asks words (a_check idl program) = IsCheck words idl program
-Asks words (nothing at) = IsUsage words at
-
-abbrev pub wish_of : Result Command ℕ → Wish
-wish_of (Ok (Run run)) = a_run run.idl run.program run.workers
-wish_of (Ok (Check check)) = a_check check.idl check.program
-wish_of (Err at) = nothing at
+-- a command; or nothing, and the words go wrong at this place
+abbrev pub Wish : Type 0
+Wish = Result Command Usage
 
 -- no run is wished for
 abbrev pub IsNoRun : Wish → Type 0
-IsNoRun (a_run idl program workers) = ⊥
-IsNoRun (a_check idl program) = Unit {0}
-IsNoRun (nothing at) = Unit {0}
+IsNoRun (Ok (Run idl program workers settings)) = ⊥
+IsNoRun (Ok (Check idl program)) = Unit {0}
+IsNoRun (Ok Report) = Unit {0}
+IsNoRun (Ok Clean) = Unit {0}
+IsNoRun (Ok (SelfRun seed n)) = Unit {0}
+IsNoRun (Ok (Plan slots durations)) = Unit {0}
+IsNoRun (Err usage) = Unit {0}
 
--- nothing is wished for
+-- nothing is wished for, or what isn't served yet
 abbrev pub IsNothing : Wish → Type 0
-IsNothing (a_run idl program workers) = ⊥
-IsNothing (a_check idl program) = ⊥
-IsNothing (nothing at) = Unit {0}
+IsNothing (Ok (Run idl program workers settings)) = ⊥
+IsNothing (Ok (Check idl program)) = ⊥
+IsNothing (Ok Report) = ⊥
+IsNothing (Ok Clean) = ⊥
+IsNothing (Ok (SelfRun seed n)) = Unit {0}
+IsNothing (Ok (Plan slots durations)) = ⊥
+IsNothing (Err usage) = Unit {0}
+
+-- a plan is for one slot at least, and at most for so many
+abbrev pub HasSlots : Wish → Type 0
+HasSlots (Ok (Run idl program workers settings)) = Unit {0}
+HasSlots (Ok (Check idl program)) = Unit {0}
+HasSlots (Ok Report) = Unit {0}
+HasSlots (Ok Clean) = Unit {0}
+HasSlots (Ok (SelfRun seed n)) = Unit {0}
+HasSlots (Ok (Plan slots durations)) = (1 ≤ slots) × (slots ≤ PLAN_SLOTS)
+HasSlots (Err usage) = Unit {0}

@@ -16,7 +16,7 @@ use Rattle.gs_run.specs.Texts.{IsWithin, IsBeyond, HasBoth, IsWrong}
 use Rattle.gs_run.specs.declared.kinds.TextKind.{TextKind}
 use Rattle.gs_run.specs.declared.kinds.TextKind.TheVariants as kind
 use Rattle.gs_run.specs.declared.stop.Stop.{Stop}
-use Rattle.gs_run.specs.declared.stop.Stop.TheVariants.{Usage, NoText, BadText, Fault, FuelOut, Lost, Disk, Sink, Memory}
+use Rattle.gs_run.specs.declared.stop.Stop.TheVariants.{Usage, NoText, BadText, Fault, FuelOut, Lost, BadStore, Gated, NoRun, Disk, Sink, Memory}
 
 -- the printed interface, and then the printed program
 abbrev pub printed_both : Interface → Program → List ℕ
@@ -62,6 +62,9 @@ CheckCause disk_old disk_new out_old out_new (Err (BadText name line k)) = Unit 
 CheckCause disk_old disk_new out_old out_new (Err (Fault line k)) = ⊥
 CheckCause disk_old disk_new out_old out_new (Err (FuelOut fuel)) = ⊥
 CheckCause disk_old disk_new out_old out_new (Err (Lost n)) = ⊥
+CheckCause disk_old disk_new out_old out_new (Err (BadStore why)) = ⊥
+CheckCause disk_old disk_new out_old out_new (Err Gated) = ⊥
+CheckCause disk_old disk_new out_old out_new (Err NoRun) = ⊥
 CheckCause disk_old disk_new out_old out_new (Err Disk) = Rises disk_old disk_new
 CheckCause disk_old disk_new out_old out_new (Err Sink) = Rises out_old out_new
 CheckCause disk_old disk_new out_old out_new (Err Memory) = Unit {0}
@@ -76,6 +79,9 @@ CheckJudged folder idl program (Err (BadText name line k)) =
 CheckJudged folder idl program (Err (Fault line k)) = ⊥
 CheckJudged folder idl program (Err (FuelOut fuel)) = ⊥
 CheckJudged folder idl program (Err (Lost n)) = ⊥
+CheckJudged folder idl program (Err (BadStore why)) = ⊥
+CheckJudged folder idl program (Err Gated) = ⊥
+CheckJudged folder idl program (Err NoRun) = ⊥
 CheckJudged folder idl program (Err Disk) = Unit {0}
 CheckJudged folder idl program (Err Sink) = HoldsBoth folder idl program
 CheckJudged folder idl program (Err Memory) = Unit {0}
@@ -93,6 +99,9 @@ CheckWrote told folder idl program old new (Err (BadText name line k)) = new ≡
 CheckWrote told folder idl program old new (Err (Fault line k)) = new ≡ old
 CheckWrote told folder idl program old new (Err (FuelOut fuel)) = new ≡ old
 CheckWrote told folder idl program old new (Err (Lost n)) = new ≡ old
+CheckWrote told folder idl program old new (Err (BadStore why)) = new ≡ old
+CheckWrote told folder idl program old new (Err Gated) = new ≡ old
+CheckWrote told folder idl program old new (Err NoRun) = new ≡ old
 CheckWrote told folder idl program old new (Err Disk) = new ≡ old
 CheckWrote told folder idl program old new (Err Sink) =
     (i : Interface) × (p : Program) × (fault_of i.ops p ≡ None)

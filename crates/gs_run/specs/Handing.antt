@@ -1,7 +1,6 @@
 -- How a run's results are handed over.
 use Rattle.std.specs.Prelude.{◌≡◌, ℕ, ◌≤◌, List, ◌++◌, length, take, Result, Ok, Err}
 use Rattle.gs_types.specs.Counts.{Rises}
-use Rattle.gs_types.specs.declared.limits.TheConstants.{FUEL_DEFAULT}
 use Rattle.gs_disk.specs.Folder.{Folder, DiskState}
 use Rattle.gs_disk.specs.Moments.{LeavesOnly}
 use Rattle.gs_disk.specs.declared.disk.DiskErr.{DiskErr}
@@ -53,9 +52,9 @@ handed_as (Err unhanded.Disk) = Err stop.Disk
 handed_as (Err unhanded.Sink) = Err stop.Sink
 handed_as (Err unhanded.Memory) = Err stop.Memory
 
-abbrev pub halted_as : Halt → Stop
-halted_as (halt.Fault line kind) = stop.Fault line kind
-halted_as halt.FuelOut = stop.FuelOut FUEL_DEFAULT
-halted_as (halt.Lost n) = stop.Lost n
-halted_as halt.Disk = stop.Disk
-halted_as halt.Memory = stop.Memory
+abbrev pub halted_as : (fuel : ℕ) → Halt → Stop
+halted_as fuel (halt.Fault line kind) = stop.Fault line kind
+halted_as fuel halt.FuelOut = stop.FuelOut fuel
+halted_as fuel (halt.Lost n) = stop.Lost n
+halted_as fuel halt.Disk = stop.Disk
+halted_as fuel halt.Memory = stop.Memory

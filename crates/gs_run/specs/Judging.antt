@@ -43,6 +43,7 @@ abbrev pub InterfaceFault : Option (List ℕ) → ℕ → TextKind → Type 0
 InterfaceFault file line (kind.Idl k) = (text : List ℕ) × (file ≡ Some text) × IsFault text line k
 InterfaceFault file line (kind.Program k) = ⊥
 InterfaceFault file line (kind.Check k) = ⊥
+InterfaceFault file line (kind.Durations k) = ⊥
 InterfaceFault file line kind.NotYet = ⊥
 
 -- the interface that a file holds, or its fault
@@ -58,6 +59,7 @@ ProgramFault file line (kind.Idl k) = ⊥
 ProgramFault file line (kind.Program k) = (text : List ℕ) × (file ≡ Some text)
     × IsTextFault text line k
 ProgramFault file line (kind.Check k) = ⊥
+ProgramFault file line (kind.Durations k) = ⊥
 ProgramFault file line kind.NotYet = ⊥
 
 -- the program that a file holds, or its fault

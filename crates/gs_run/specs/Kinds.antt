@@ -6,10 +6,12 @@ use Rattle.gs_parse.specs.declared.fault.ParseKind.{ParseKind}
 use Rattle.gs_parse.specs.declared.fault.ParseKind.TheVariants as parse
 use Rattle.gs_check.specs.declared.kind.CheckKind.{CheckKind}
 use Rattle.gs_check.specs.declared.kind.CheckKind.TheVariants as check
+use Rattle.gs_plan.specs.declared.kind.DurKind.{DurKind}
+use Rattle.gs_plan.specs.declared.kind.DurKind.TheVariants as durations
 use Rattle.gs_types.specs.declared.settings.FaultKind.{FaultKind}
 use Rattle.gs_types.specs.declared.settings.FaultKind.TheVariants as fault
 use Rattle.gs_run.specs.declared.kinds.TextKind.{TextKind}
-use Rattle.gs_run.specs.declared.kinds.TextKind.TheVariants.{Idl, Program, Check, NotYet}
+use Rattle.gs_run.specs.declared.kinds.TextKind.TheVariants.{Idl, Program, Check, Durations, NotYet}
 
 abbrev pub idl_kind_text : IdlKind → List ℕ
 idl_kind_text idl.TooLong = codes "TooLong"
@@ -44,10 +46,19 @@ check_kind_text check.WrongCount = codes "WrongCount"
 check_kind_text check.NotVariable = codes "NotVariable"
 check_kind_text check.BadFormat = codes "BadFormat"
 
+abbrev pub duration_kind_text : DurKind → List ℕ
+duration_kind_text durations.TooLong = codes "TooLong"
+duration_kind_text durations.BadByte = codes "BadByte"
+duration_kind_text durations.BadLine = codes "BadLine"
+duration_kind_text durations.UnknownOp = codes "UnknownOp"
+duration_kind_text durations.BadNumber = codes "BadNumber"
+duration_kind_text durations.Twice = codes "Twice"
+
 abbrev pub kind_text : TextKind → List ℕ
 kind_text (Idl kind) = idl_kind_text kind
 kind_text (Program kind) = parse_kind_text kind
 kind_text (Check kind) = check_kind_text kind
+kind_text (Durations kind) = duration_kind_text kind
 kind_text NotYet = codes "NotYet"
 
 -- faults of a program that runs

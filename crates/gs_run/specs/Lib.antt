@@ -9,4 +9,4 @@ pub mod Served
 pub mod Showing
 pub mod Stop
 pub mod Texts
-pub mod Words
+pub mod Verbs

@@ -5,7 +5,6 @@ use Rattle.gs_tree.specs.Program.{Program}
 use Rattle.gs_types.specs.Counts.{Rises}
 use Rattle.gs_types.specs.History.{History}
 use Rattle.gs_types.specs.Job.{Meaning}
-use Rattle.gs_types.specs.declared.limits.TheConstants.{FUEL_DEFAULT}
 use Rattle.gs_disk.specs.Folder.{Folder, DiskState, Same}
 use Rattle.gs_disk.specs.Moments.{Passes, LeavesOnly}
 use Rattle.gs_talk.specs.declared.question.Question.{Question}
@@ -22,10 +21,10 @@ use Rattle.gs_run.specs.declared.stop.Stop as stops
 
 -- ---- the sequential run
 
--- of a program over a folder, with the default fuel
-abbrev pub run_in : (idl_name program_name : List ℕ) → Interface → Program → Meaning → Folder → Run
-run_in idl_name program_name i p law folder =
-    run_of (given_by idl_name program_name i p) law folder FUEL_DEFAULT
+-- of a program over a folder, with so much fuel
+abbrev pub run_in : (fuel : ℕ) → (idl_name program_name : List ℕ) → Interface → Program → Meaning → Folder → Run
+run_in fuel idl_name program_name i p law folder =
+    run_of (given_by idl_name program_name i p) law folder fuel
 
 -- no action of the run writes the file
 abbrev pub IsUntouched : Run → List ℕ → Type 0
@@ -61,10 +60,13 @@ Judged folder idl program workers (Err (stop.BadText name line kind)) =
     Present folder idl program workers × Refused folder idl program workers name line kind
 Judged folder idl program workers (Err (stop.Fault line kind)) =
     IsServed folder idl program workers (λ i p worker. Unit {0})
-Judged folder idl program workers (Err (stop.FuelOut fuel)) =
+Judged folder idl program workers (Err (stop.FuelOut steps)) =
     IsServed folder idl program workers (λ i p worker. Unit {0})
 Judged folder idl program workers (Err (stop.Lost n)) =
     IsServed folder idl program workers (λ i p worker. Unit {0})
+Judged folder idl program workers (Err (stop.BadStore why)) = ⊥
+Judged folder idl program workers (Err stop.Gated) = ⊥
+Judged folder idl program workers (Err stop.NoRun) = ⊥
 Judged folder idl program workers (Err stop.Disk) = Unit {0}
 Judged folder idl program workers (Err stop.Sink) =
     IsServed folder idl program workers (λ i p worker. Unit {0})
@@ -73,31 +75,34 @@ Judged folder idl program workers (Err stop.Memory) = Unit {0}
 -- ---- the counts of faults
 
 -- what each answer says of those of the disk, the link and the output
-abbrev pub Cause : (disk_old disk_new link_old link_new out_old out_new : ℕ)
+abbrev pub Cause : (fuel : ℕ) → (disk_old disk_new link_old link_new out_old out_new : ℕ)
     → Result Unit stops.Stop → Type 0
-Cause d e k l o p (Ok done) = Unit {0}
-Cause d e k l o p (Err (stop.Usage word)) = ⊥
-Cause d e k l o p (Err (stop.NoText name)) = Unit {0}
-Cause d e k l o p (Err (stop.BadText name line kind)) = Unit {0}
-Cause d e k l o p (Err (stop.Fault line kind)) = Unit {0}
-Cause d e k l o p (Err (stop.FuelOut fuel)) = fuel ≡ FUEL_DEFAULT
-Cause d e k l o p (Err (stop.Lost n)) = Rises k l
-Cause d e k l o p (Err stop.Disk) = Rises d e
-Cause d e k l o p (Err stop.Sink) = Rises o p
-Cause d e k l o p (Err stop.Memory) = Unit {0}
+Cause fuel d e k l o p (Ok done) = Unit {0}
+Cause fuel d e k l o p (Err (stop.Usage word)) = ⊥
+Cause fuel d e k l o p (Err (stop.NoText name)) = Unit {0}
+Cause fuel d e k l o p (Err (stop.BadText name line kind)) = Unit {0}
+Cause fuel d e k l o p (Err (stop.Fault line kind)) = Unit {0}
+Cause fuel d e k l o p (Err (stop.FuelOut steps)) = steps ≡ fuel
+Cause fuel d e k l o p (Err (stop.Lost n)) = Rises k l
+Cause fuel d e k l o p (Err (stop.BadStore why)) = ⊥
+Cause fuel d e k l o p (Err stop.Gated) = ⊥
+Cause fuel d e k l o p (Err stop.NoRun) = ⊥
+Cause fuel d e k l o p (Err stop.Disk) = Rises d e
+Cause fuel d e k l o p (Err stop.Sink) = Rises o p
+Cause fuel d e k l o p (Err stop.Memory) = Unit {0}
 
 -- ---- the folder as the call ended, and what a crash may leave of it
 
 -- no run that the folder's texts say writes the file
-abbrev pub IsUnwritten : Meaning → Folder → (idl program workers : List ℕ) → List ℕ → Type 0
-IsUnwritten law folder idl program workers x = (i : Interface) (p : Program) (worker : Worker)
+abbrev pub IsUnwritten : (fuel : ℕ) → Meaning → Folder → (idl program workers : List ℕ) → List ℕ → Type 0
+IsUnwritten fuel law folder idl program workers x = (i : Interface) (p : Program) (worker : Worker)
     → Served folder idl program workers i p worker
-    → IsUntouched (run_in idl program i p law folder) x
+    → IsUntouched (run_in fuel idl program i p law folder) x
 
 -- each such file is the same
-pub record KeepsUnwritten (law : Meaning) (folder : Folder) (idl program workers : List ℕ)
+pub record KeepsUnwritten (fuel : ℕ) (law : Meaning) (folder : Folder) (idl program workers : List ℕ)
     (old new : Folder) : Type 0 where
-  pub each : (x : List ℕ) → IsUnwritten law folder idl program workers x → new x ≡ old x
+  pub each : (x : List ℕ) → IsUnwritten fuel law folder idl program workers x → new x ≡ old x
 
 -- nothing was written: every file reads as before, and each image, within the call too, is one of
 -- before
@@ -107,31 +112,34 @@ pub record Untouched (old new : DiskState) : Type 0 where
 
 -- All tasks of the run have finished, and it ended. Its files may be written; every other file
 -- reads as before, and in each image, within the call too, is as in one of before.
-pub record Written (law : Meaning) (idl program workers : List ℕ) (tells : History → Type 0)
+pub record Written (fuel : ℕ) (law : Meaning) (idl program workers : List ℕ) (tells : History → Type 0)
     (past : History) (old new : DiskState) : Type 0 where
   pub ended : IsServed old.folder idl program workers (λ i p worker.
-      RanInto worker.program (run_in idl program i p law old.folder) tells past q.End)
-  pub files : KeepsUnwritten law old.folder idl program workers old.folder new.folder
-  pub images : Passes (KeepsUnwritten law old.folder idl program workers) old new
+      RanInto worker.program (run_in fuel idl program i p law old.folder) tells past q.End)
+  pub files : KeepsUnwritten fuel law old.folder idl program workers old.folder new.folder
+  pub images : Passes (KeepsUnwritten fuel law old.folder idl program workers) old new
 
 -- what each answer leaves; at the end the folder is its only image
-abbrev pub Left : Meaning → (idl program workers : List ℕ) → (tells : History → Type 0)
+abbrev pub Left : (fuel : ℕ) → Meaning → (idl program workers : List ℕ) → (tells : History → Type 0)
     → (past : History) → (old new : DiskState) → Result Unit stops.Stop → Type 0
-Left law idl program workers tells past old new (Ok done) =
-    Written law idl program workers tells past old new × LeavesOnly new.folder new
-Left law idl program workers tells past old new (Err (stop.Usage word)) = ⊥
-Left law idl program workers tells past old new (Err (stop.NoText name)) = Untouched old new
-Left law idl program workers tells past old new (Err (stop.BadText name line kind)) =
+Left fuel law idl program workers tells past old new (Ok done) =
+    Written fuel law idl program workers tells past old new × LeavesOnly new.folder new
+Left fuel law idl program workers tells past old new (Err (stop.Usage word)) = ⊥
+Left fuel law idl program workers tells past old new (Err (stop.NoText name)) = Untouched old new
+Left fuel law idl program workers tells past old new (Err (stop.BadText name line kind)) =
     Untouched old new
-Left law idl program workers tells past old new (Err (stop.Fault line kind)) = Untouched old new
-Left law idl program workers tells past old new (Err (stop.FuelOut fuel)) = Untouched old new
-Left law idl program workers tells past old new (Err (stop.Lost n)) = Untouched old new
-Left law idl program workers tells past old new (Err stop.Disk) =
-    Untouched old new ⊎ Written law idl program workers tells past old new
-Left law idl program workers tells past old new (Err stop.Sink) =
-    Written law idl program workers tells past old new × LeavesOnly new.folder new
-Left law idl program workers tells past old new (Err stop.Memory) =
-    Untouched old new ⊎ Written law idl program workers tells past old new
+Left fuel law idl program workers tells past old new (Err (stop.Fault line kind)) = Untouched old new
+Left fuel law idl program workers tells past old new (Err (stop.FuelOut steps)) = Untouched old new
+Left fuel law idl program workers tells past old new (Err (stop.Lost n)) = Untouched old new
+Left fuel law idl program workers tells past old new (Err (stop.BadStore why)) = ⊥
+Left fuel law idl program workers tells past old new (Err stop.Gated) = ⊥
+Left fuel law idl program workers tells past old new (Err stop.NoRun) = ⊥
+Left fuel law idl program workers tells past old new (Err stop.Disk) =
+    Untouched old new ⊎ Written fuel law idl program workers tells past old new
+Left fuel law idl program workers tells past old new (Err stop.Sink) =
+    Written fuel law idl program workers tells past old new × LeavesOnly new.folder new
+Left fuel law idl program workers tells past old new (Err stop.Memory) =
+    Untouched old new ⊎ Written fuel law idl program workers tells past old new
 
 -- ---- the output
 
@@ -142,8 +150,11 @@ Wrote old new (Err (stop.Usage word)) = ⊥
 Wrote old new (Err (stop.NoText name)) = new ≡ old
 Wrote old new (Err (stop.BadText name line kind)) = new ≡ old
 Wrote old new (Err (stop.Fault line kind)) = new ≡ old
-Wrote old new (Err (stop.FuelOut fuel)) = new ≡ old
+Wrote old new (Err (stop.FuelOut steps)) = new ≡ old
 Wrote old new (Err (stop.Lost n)) = new ≡ old
+Wrote old new (Err (stop.BadStore why)) = ⊥
+Wrote old new (Err stop.Gated) = ⊥
+Wrote old new (Err stop.NoRun) = ⊥
 Wrote old new (Err stop.Disk) = new ≡ old
 Wrote old new (Err stop.Sink) = (text : List ℕ) × (k : ℕ) × (new ≡ old ++ take k text)
 Wrote old new (Err stop.Memory) = new ≡ old
@@ -151,53 +162,59 @@ Wrote old new (Err stop.Memory) = new ≡ old
 -- ---- the run
 
 -- what each answer says of the sequential run under the link's law, and of the link's events
-abbrev pub Happened : (wrote : Type 0) → Meaning → (idl program workers : List ℕ)
+abbrev pub Happened : (fuel : ℕ) → (wrote : Type 0) → Meaning → (idl program workers : List ℕ)
     → (old new : Folder) → (tells : History → Type 0) → (past : History)
     → (written_old written_new : List ℕ) → Result Unit stops.Stop → Type 0
-Happened wrote law idl program workers old new tells past before after (Ok done) =
+Happened fuel wrote law idl program workers old new tells past before after (Ok done) =
     IsServed old idl program workers (λ i p worker. (text : List ℕ)
-    × Ended worker.program (run_in idl program i p law old) new text tells past
+    × Ended worker.program (run_in fuel idl program i p law old) new text tells past
     × (wrote → after ≡ before ++ text))
-Happened wrote law idl program workers old new tells past before after (Err (stop.Usage word)) = ⊥
-Happened wrote law idl program workers old new tells past before after (Err (stop.NoText name)) =
+Happened fuel wrote law idl program workers old new tells past before after (Err (stop.Usage word)) = ⊥
+Happened fuel wrote law idl program workers old new tells past before after (Err (stop.NoText name)) =
     tells past
-Happened wrote law idl program workers old new tells past before after
+Happened fuel wrote law idl program workers old new tells past before after
     (Err (stop.BadText name line kind)) = tells past
-Happened wrote law idl program workers old new tells past before after
+Happened fuel wrote law idl program workers old new tells past before after
     (Err (stop.Fault line kind)) = IsServed old idl program workers (λ i p worker.
-    RanInto worker.program (run_in idl program i p law old) tells past (q.Fault line kind))
-Happened wrote law idl program workers old new tells past before after
-    (Err (stop.FuelOut fuel)) = IsServed old idl program workers (λ i p worker.
-    RanInto worker.program (run_in idl program i p law old) tells past q.FuelOut)
-Happened wrote law idl program workers old new tells past before after (Err (stop.Lost n)) =
+    RanInto worker.program (run_in fuel idl program i p law old) tells past (q.Fault line kind))
+Happened fuel wrote law idl program workers old new tells past before after
+    (Err (stop.FuelOut steps)) = IsServed old idl program workers (λ i p worker.
+    RanInto worker.program (run_in fuel idl program i p law old) tells past q.FuelOut)
+Happened fuel wrote law idl program workers old new tells past before after (Err (stop.Lost n)) =
     IsServed old idl program workers (λ i p worker.
-    RanLost worker.program (run_in idl program i p law old) tells past n)
-Happened wrote law idl program workers old new tells past before after (Err stop.Disk) =
+    RanLost worker.program (run_in fuel idl program i p law old) tells past n)
+Happened fuel wrote law idl program workers old new tells past before after
+    (Err (stop.BadStore why)) = ⊥
+Happened fuel wrote law idl program workers old new tells past before after
+    (Err stop.Gated) = ⊥
+Happened fuel wrote law idl program workers old new tells past before after
+    (Err stop.NoRun) = ⊥
+Happened fuel wrote law idl program workers old new tells past before after (Err stop.Disk) =
     tells past ⊎ IsServed old idl program workers (λ i p worker.
-    RanUntil worker.program (run_in idl program i p law old) tells past)
-Happened wrote law idl program workers old new tells past before after (Err stop.Sink) =
+    RanUntil worker.program (run_in fuel idl program i p law old) tells past)
+Happened fuel wrote law idl program workers old new tells past before after (Err stop.Sink) =
     IsServed old idl program workers (λ i p worker. (text : List ℕ)
-    × Ended worker.program (run_in idl program i p law old) new text tells past
+    × Ended worker.program (run_in fuel idl program i p law old) new text tells past
     × (wrote → (k : ℕ) × (k ≤ length text) × (after ≡ before ++ take k text)))
-Happened wrote law idl program workers old new tells past before after (Err stop.Memory) =
+Happened fuel wrote law idl program workers old new tells past before after (Err stop.Memory) =
     tells past ⊎ IsServed old idl program workers (λ i p worker.
-    RanUntil worker.program (run_in idl program i p law old) tells past)
+    RanUntil worker.program (run_in fuel idl program i p law old) tells past)
 
 -- ---- all of it
 
--- what a call did with three names, on a disk that tells its folder where `told` holds, a link
+-- what a call did with three names and so much fuel, on a disk that tells its folder where `told` holds, a link
 -- under a law, and an output that tells what was written where `wrote` holds
-pub record Ran (told wrote : Type 0) (old new : DiskState) (law : Meaning)
+pub record Ran (fuel : ℕ) (told wrote : Type 0) (old new : DiskState) (law : Meaning)
     (tells_old tells_new : History → Type 0) (link_old link_new out_old out_new : ℕ)
     (written_old written_new : List ℕ) (idl program workers : List ℕ)
     (answer : Result Unit stops.Stop) : Type 0 where
-  pub cause : Cause old.faults new.faults link_old link_new out_old out_new answer
+  pub cause : Cause fuel old.faults new.faults link_old link_new out_old out_new answer
   pub judged : told → Judged old.folder idl program workers answer
   pub left : told → (past : History) → tells_old past
-      → Left law idl program workers tells_new past old new answer
+      → Left fuel law idl program workers tells_new past old new answer
   pub written : wrote → Wrote written_old written_new answer
   pub happened : told → (past : History) → tells_old past
-      → Happened wrote law idl program workers old.folder new.folder tells_new past
+      → Happened fuel wrote law idl program workers old.folder new.folder tells_new past
       written_old written_new answer
 
 -- ---- runs that end, and no fault

@@ -7,10 +7,10 @@ ghost use Rattle.gs_run.specs.Showing.{ShortEnds, ShortTold};
 
 use crate::Stop;
 use crate::kinds::TextKind;
+use crate::names::CheckWords;
 use crate::refusal::{Refusal, stopped};
 use crate::showing::{show, shown};
 use crate::texts::{Text, bad_text, checked, no_text, read_text};
-use crate::words::CheckWords;
 use gs_disk::Disk;
 use gs_idl::IdlKind;
 use gs_parse::ParseKind;

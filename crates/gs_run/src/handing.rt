@@ -7,7 +7,7 @@ ghost use Rattle.gs_run.specs.Handing.{unwritten, HandEnds, HandPut, HandWrote, 
 use crate::Stop;
 use gs_disk::{Disk, DiskErr};
 use gs_serial::{Changed, Halt, write_files};
-use gs_types::{FUEL_DEFAULT, Sink, put_all};
+use gs_types::{Sink, put_all};
 
 /// Why results weren't handed over: the disk failed; the output failed; memory was wanting.
 #[derive(Clone, Copy, Debug, PartialEq, Eq)]
@@ -66,13 +66,13 @@ pub(crate) fn handed(answer: Result<(), Unhanded>) -> Result<(), Stop>
     }
 }
 
-/// The call stops for this.
-pub(crate) fn halted(halt: Halt) -> Stop
-    ensures { result ≡ halted_as halt }
+/// The call with so much fuel stops for this.
+pub(crate) fn halted(fuel: u64, halt: Halt) -> Stop
+    ensures { result ≡ halted_as fuel halt }
 {
     match halt {
         Halt::Fault { line, kind } => Stop::Fault { line, kind },
-        Halt::FuelOut => Stop::FuelOut { fuel: FUEL_DEFAULT },
+        Halt::FuelOut => Stop::FuelOut { fuel },
         Halt::Lost { n } => Stop::Lost { n },
         Halt::Disk => Stop::Disk,
         Halt::Memory => Stop::Memory,

@@ -5,9 +5,9 @@ ghost use Rattle.gs_disk.specs.Moments.{Passes};
 ghost use Rattle.gs_run.specs.Judging.{JudgeEnds, JudgeTold};
 
 use crate::kinds::TextKind;
+use crate::names::Words;
 use crate::refusal::Refusal;
 use crate::texts::{bad_text, checked, read_texts, worker_of};
-use crate::words::Words;
 use gs_check::Checked;
 use gs_disk::Disk;
 use gs_form::Worker;

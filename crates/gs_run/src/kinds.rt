@@ -1,20 +1,21 @@
 // How a text goes wrong.
 ghost use Rattle.std.specs.Prelude.{◌≡◌};
-ghost use Rattle.gs_run.specs.Kinds.{idl_kind_text, parse_kind_text, check_kind_text, fault_kind_text, kind_text};
+ghost use Rattle.gs_run.specs.Kinds.{idl_kind_text, parse_kind_text, check_kind_text, duration_kind_text, fault_kind_text, kind_text};
 
 use gs_check::CheckKind;
 use gs_idl::IdlKind;
 use gs_parse::ParseKind;
+use gs_plan::DurKind;
 use gs_types::FaultKind;
 
-/// How a text goes wrong: an IDL by its grammar, a program by its grammar or its checks, or a text
-/// that says what isn't
-/// carried out yet.
+/// How a text goes wrong: an IDL by its grammar, a program by its grammar or its checks, a list of
+/// durations, or a text that says what isn't carried out yet.
 #[derive(Clone, Copy, PartialEq, Eq, Debug)]
 pub enum TextKind {
     Idl { kind: IdlKind },
     Program { kind: ParseKind },
     Check { kind: CheckKind },
+    Durations { kind: DurKind },
     NotYet,
 }
 
@@ -66,6 +67,19 @@ fn check_kind_text(kind: CheckKind) -> &'static [u8]
     }
 }
 
+fn duration_kind_text(kind: DurKind) -> &'static [u8]
+    ensures { result.now ≡ duration_kind_text kind }
+{
+    match kind {
+        DurKind::TooLong => b"TooLong",
+        DurKind::BadByte => b"BadByte",
+        DurKind::BadLine => b"BadLine",
+        DurKind::UnknownOp => b"UnknownOp",
+        DurKind::BadNumber => b"BadNumber",
+        DurKind::Twice => b"Twice",
+    }
+}
+
 /// The word for a kind.
 pub(crate) fn kind_text(kind: TextKind) -> &'static [u8]
     ensures { result.now ≡ kind_text kind }
@@ -74,6 +88,7 @@ pub(crate) fn kind_text(kind: TextKind) -> &'static [u8]
         TextKind::Idl { kind } => idl_kind_text(kind),
         TextKind::Program { kind } => parse_kind_text(kind),
         TextKind::Check { kind } => check_kind_text(kind),
+        TextKind::Durations { kind } => duration_kind_text(kind),
         TextKind::NotYet => b"NotYet",
     }
 }

@@ -5,12 +5,13 @@ mod checking;
 mod handing;
 mod judge;
 mod kinds;
+mod names;
 mod refusal;
 mod run;
 mod showing;
 mod stop;
 mod texts;
-mod words;
+mod verbs;
 
 pub use kinds::TextKind;
 pub use run::gs;

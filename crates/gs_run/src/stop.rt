@@ -1,20 +1,25 @@
 // Why a call of `gs` stops.
 ghost use Rattle.std.specs.Prelude.{◌≡◌, ◌≤◌, ◌++◌, OnOk, OnErr, Err, decimal, codes, ◌∷◌, []};
 ghost use Rattle.gs_run.specs.Kinds.{kind_text, fault_kind_text};
+ghost use Rattle.gs_run.specs.Stop.{found_text, bad_store_line};
+ghost use Rattle.gs_store.specs.Names.{version_name};
 ghost use Rattle.gs_types.specs.Counts.{Rises};
 
 use crate::kinds::{TextKind, fault_kind_text, kind_text};
-use gs_types::{FaultKind, Name, Sink, SinkFailed, put_all};
+use gs_store::version_file;
+use gs_types::{FaultKind, Name, Sink, SinkFailed, Version, put_all};
+use gs_verbs::BadStore;
 use itoa::Buffer;
 
 /// Why a call of `gs` stops before it is done: the words have no reading, from the word at this
 /// place on; a text is absent; a text goes wrong, on a line, from 1, or as a whole, on line 0; the
-/// program met a fault on a line, or its fuel ran out; a task was lost; the disk failed; the output
-/// failed; memory was wanting.
+/// program met a fault on a line, or its fuel ran out; a task was lost; the store of the folder is
+/// none, or isn't used; its results may not be in the user's files yet; no run has ended; the disk
+/// failed; the output failed; memory was wanting.
 #[derive(Drop)]
 pub enum Stop {
     Usage {
-        word: usize,
+        word: u32,
     },
     NoText {
         name: Name,
@@ -34,6 +39,11 @@ pub enum Stop {
     Lost {
         n: u32,
     },
+    BadStore {
+        bad: BadStore,
+    },
+    Gated,
+    NoRun,
     Disk,
     Sink,
     Memory,
@@ -56,10 +66,13 @@ impl Stop {
             } => 4,
             Stop::Fault { line: _, kind: _ } => 7,
             Stop::FuelOut { fuel: _ } => 8,
+            Stop::BadStore { bad: _ } => 6,
             Stop::Lost { n: _ } => 9,
             Stop::Disk => 10,
             Stop::Sink => 11,
             Stop::Memory => 12,
+            Stop::Gated => 13,
+            Stop::NoRun => 15,
         }
     }
 
@@ -93,6 +106,9 @@ impl Stop {
                 buffer.format(*n).as_bytes(),
                 b"\n",
             ),
+            Stop::BadStore { bad } => tell_bad_store(err, bad),
+            Stop::Gated => put_all(err, b"gs: gated\n"),
+            Stop::NoRun => put_all(err, b"gs: no run\n"),
             Stop::Disk => put_all(err, b"gs: disk fault\n"),
             Stop::Sink => put_all(err, b"gs: sink fault\n"),
             Stop::Memory => put_all(err, b"gs: no memory\n"),
@@ -151,4 +167,64 @@ fn tell_fault<E: Sink>(err: &mut E, line: u32, kind: FaultKind) -> Result<(), Si
         fault_kind_text(kind),
     )?;
     put_all(err, b"\n")
+}
+
+fn tell_found<E: Sink>(err: &mut E, found: Option<u64>) -> Result<(), SinkFailed>
+    ensures all { E.tells → OnOk result (E.written err.new
+        ≡ E.written err.old ++ (codes " found " ++ (found_text found ++ 10 ∷ []))) }
+    ensures rise { E.faults err.old ≤ E.faults err.new }
+    ensures cause { OnErr result (Rises (E.faults err.old) (E.faults err.new)) }
+{
+    let mut buffer = Buffer::new();
+    match found {
+        None => tell_parts(err, b" found ", b"none", b"\n"),
+        Some(len) => tell_parts(err, b" found ", buffer.format(len).as_bytes(), b"\n"),
+    }
+}
+
+fn tell_lost<E: Sink>(
+    err: &mut E,
+    version: &Version,
+    kept: u64,
+    found: Option<u64>,
+) -> Result<(), SinkFailed>
+    ensures all { E.tells → OnOk result (E.written err.new ≡ E.written err.old
+        ++ (codes "gs: bad store: file " ++ (version_name version.now ++ (codes " kept "
+        ++ (decimal kept ++ (codes " found " ++ (found_text found ++ 10 ∷ []))))))) }
+    ensures rise { E.faults err.old ≤ E.faults err.new }
+    ensures cause { OnErr result (Rises (E.faults err.old) (E.faults err.new)) }
+{
+    let mut buffer = Buffer::new();
+    let name = version_file(version);
+    tell_parts(err, b"gs: bad store: file ", name.bytes(), b" kept ")?;
+    put_all(err, buffer.format(kept).as_bytes())?;
+    tell_found(err, found)
+}
+
+fn tell_bad_store<E: Sink>(err: &mut E, bad: &BadStore) -> Result<(), SinkFailed>
+    ensures all { E.tells → OnOk result (E.written err.new
+        ≡ E.written err.old ++ bad_store_line bad.now) }
+    ensures rise { E.faults err.old ≤ E.faults err.new }
+    ensures cause { OnErr result (Rises (E.faults err.old) (E.faults err.new)) }
+{
+    let mut buffer = Buffer::new();
+    match bad {
+        BadStore::Log { at } => tell_parts(
+            err,
+            b"gs: bad store: log at ",
+            buffer.format(*at).as_bytes(),
+            b"\n",
+        ),
+        BadStore::Record { index } => tell_parts(
+            err,
+            b"gs: bad store: record ",
+            buffer.format(*index).as_bytes(),
+            b"\n",
+        ),
+        BadStore::Lost {
+            version,
+            kept,
+            found,
+        } => tell_lost(err, version, *kept, *found),
+    }
 }

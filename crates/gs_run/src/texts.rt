@@ -7,8 +7,8 @@ ghost use Rattle.gs_run.specs.declared.refusal.Refusal.TheVariants.{NoText, BadT
 ghost use Rattle.gs_run.specs.declared.kinds.TextKind.TheVariants as kind;
 
 use crate::kinds::TextKind;
+use crate::names::Words;
 use crate::refusal::Refusal;
-use crate::words::Words;
 use gs_check::{CheckErr, Checked, check};
 use gs_disk::{Disk, DiskErr, DiskName, Whole, read_whole};
 use gs_form::{Worker, read_worker};

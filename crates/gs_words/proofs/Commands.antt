@@ -3,11 +3,11 @@ use Rattle.std.proofs.Common.{◌≡◌, refl, sym, ap, ◌∙◌, subst, ℕ, �
 use Rattle.std.specs.Prelude.{codes}
 use Rattle.std.specs.List.{slice_get}
 use Rattle.gs_words.specs.declared.command.Command.{Command}
-use Rattle.gs_words.specs.declared.command.Command.TheVariants.{Run, Check, Report, Clean, SelfRun}
-use Rattle.gs_words.specs.declared.command.TheConstants.{SELF_LIMIT}
+use Rattle.gs_words.specs.declared.command.Command.TheVariants.{Run, Check, Report, Clean, SelfRun, Plan}
+use Rattle.gs_words.specs.declared.command.TheConstants.{SELF_LIMIT, PLAN_LIMIT}
 use Rattle.gs_words.specs.Words.{Choice, AreOptions, AreDistinct, settings_of, Says}
 use Rattle.gs_words.specs.Usage.{IsCommand}
-use Rattle.gs_words.proofs.Forms.{Place, Word, AName, ANumber, Stands, Fits, Verb, runs, checks, reports, cleans, makes, word_of, more_of, form_of, verb_is}
+use Rattle.gs_words.proofs.Forms.{Place, Word, AName, ANumber, Stands, Fits, Verb, runs, checks, reports, cleans, makes, plans, word_of, more_of, form_of, verb_is}
 
 -- options, each at most once
 pub record AreChoices (words : List (List ℕ)) : Type 0 where
@@ -22,6 +22,7 @@ Tail checks rest = rest ≡ []
 Tail reports rest = rest ≡ []
 Tail cleans rest = rest ≡ []
 Tail makes rest = rest ≡ []
+Tail plans rest = rest ≡ []
 
 pub record HasForm (words : List (List ℕ)) : Type 0 where
   pub verb : Verb
@@ -51,6 +52,14 @@ to_form words (SelfRun seed n) is = record {
   fits = (refl, ((seed, is.seed_says), ((n, is.count_says), tt)));
   tail = refl;
 }
+to_form words (Plan slots durations) is = record {
+  verb = plans;
+  front = codes "plan" ∷ is.slots_word ∷ durations ∷ [];
+  rest = [];
+  parts = is.words_are;
+  fits = (refl, ((slots, is.slots_say), (is.durations_name, tt)));
+  tail = refl;
+}
 
 -- the command's verb
 abbrev pub verb_of : Command → Verb
@@ -59,6 +68,7 @@ verb_of (Check idl program) = checks
 verb_of Report = reports
 verb_of Clean = cleans
 verb_of (SelfRun seed n) = makes
+verb_of (Plan slots durations) = plans
 
 pub form_verb : (words : List (List ℕ)) (c : Command) (is : Says words c) → (to_form words c is).verb ≡ verb_of c
 unfolding to_form
@@ -67,6 +77,7 @@ form_verb words (Check idl program) is = refl
 form_verb words Report is = refl
 form_verb words Clean is = refl
 form_verb words (SelfRun seed n) is = refl
+form_verb words (Plan slots durations) is = refl
 
 -- the words of a form
 pub record Parted (p : Place) (ps : List Place) (ws : List (List ℕ)) : Type 0 where
@@ -127,6 +138,16 @@ self_command front fits =
     a.parts ∙ ap (λ (w : List ℕ). w ∷ a.more) a.stands ∙ ap (λ (ws : List (List ℕ)). codes "self" ∷ ws) (b.parts ∙ ap (λ (ws : List (List ℕ)). b.word ∷ ws) (c.parts ∙ ap (λ (ws : List (List ℕ)). c.word ∷ ws) none)) in
     (SelfRun b.stands.0 c.stands.0, record { seed_word = b.word; count_word = c.word; words_are = ap (λ (ws : List (List ℕ)). ws ++ []) whole; seed_says = b.stands.1; count_says = c.stands.1 })
 
+plan_command : (front : List (List ℕ)) → Fits (form_of plans) front → IsCommand (front ++ [])
+plan_command front fits =
+    let a = parted (Word (codes "plan")) (more_of plans) front fits in
+    let b = parted (ANumber 1 PLAN_LIMIT) (AName ∷ []) a.more a.fits in
+    let c = parted AName [] b.more b.fits in
+    let none = nothing_left c.more c.fits in
+    let whole : front ≡ codes "plan" ∷ b.word ∷ c.word ∷ [] =
+    a.parts ∙ ap (λ (w : List ℕ). w ∷ a.more) a.stands ∙ ap (λ (ws : List (List ℕ)). codes "plan" ∷ ws) (b.parts ∙ ap (λ (ws : List (List ℕ)). b.word ∷ ws) (c.parts ∙ ap (λ (ws : List (List ℕ)). c.word ∷ ws) none)) in
+    (Plan b.stands.0 c.word, record { slots_word = b.word; words_are = ap (λ (ws : List (List ℕ)). ws ++ []) whole; slots_say = b.stands.1; durations_name = c.stands })
+
 word_alone : (v : Verb) (front : List (List ℕ)) → Fits (Word (word_of v) ∷ []) front → front ≡ word_of v ∷ []
 word_alone v front fits =
     let a = parted (Word (word_of v)) [] front fits in
@@ -139,6 +160,7 @@ front_command checks front fits = check_command front fits
 front_command reports front fits = (Report, ap (λ (ws : List (List ℕ)). ws ++ []) (word_alone reports front fits))
 front_command cleans front fits = (Clean, ap (λ (ws : List (List ℕ)). ws ++ []) (word_alone cleans front fits))
 front_command makes front fits = self_command front fits
+front_command plans front fits = plan_command front fits
 
 -- ---- the verb of words
 

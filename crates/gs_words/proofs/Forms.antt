@@ -5,7 +5,7 @@ use Rattle.std.proofs.lemmas.Bool.{cases_lt}
 use Rattle.std.specs.Bool.{⊤}
 use Rattle.std.specs.List.{slice_get}
 use Rattle.gs_types.specs.Name.{IsName, may_stand}
-use Rattle.gs_words.specs.declared.command.TheConstants.{SELF_LIMIT}
+use Rattle.gs_words.specs.declared.command.TheConstants.{SELF_LIMIT, PLAN_LIMIT}
 use Rattle.gs_words.specs.Words.{IsNumber}
 
 -- one word, a name, or a number within limits
@@ -106,6 +106,7 @@ pub data Verb : Type 0 where
   reports : Verb
   cleans : Verb
   makes : Verb
+  plans : Verb
 
 abbrev pub word_of : Verb → List ℕ
 word_of runs = codes "run"
@@ -113,6 +114,7 @@ word_of checks = codes "check"
 word_of reports = codes "report"
 word_of cleans = codes "clean"
 word_of makes = codes "self"
+word_of plans = codes "plan"
 
 abbrev pub more_of : Verb → List Place
 more_of runs = AName ∷ AName ∷ AName ∷ []
@@ -120,6 +122,7 @@ more_of checks = AName ∷ AName ∷ []
 more_of reports = []
 more_of cleans = []
 more_of makes = ANumber 0 (2 ^ 64 - 1) ∷ ANumber 1 SELF_LIMIT ∷ []
+more_of plans = ANumber 1 PLAN_LIMIT ∷ AName ∷ []
 
 abbrev pub form_of : Verb → List Place
 form_of v = Word (word_of v) ∷ more_of v
@@ -134,6 +137,7 @@ example_of checks = codes "check" ∷ a_name ∷ a_name ∷ []
 example_of reports = codes "report" ∷ []
 example_of cleans = codes "clean" ∷ []
 example_of makes = codes "self" ∷ codes "1" ∷ codes "1" ∷ []
+example_of plans = codes "plan" ∷ codes "1" ∷ a_name ∷ []
 
 may_be_first : (k : ℕ) → k < 1 → may_stand k (slice_index a_name k) ≡ true
 may_be_first zero lt = refl
@@ -151,6 +155,7 @@ example_fits checks = (refl, (is_a_name, (is_a_name, tt)))
 example_fits reports = (refl, tt)
 example_fits cleans = (refl, tt)
 example_fits makes = (refl, ((1, is_one 0 (2 ^ 64 - 1) (omega arith) (omega arith)), ((1, is_one 1 SELF_LIMIT (omega arith) (omega arith)), tt)))
+example_fits plans = (refl, ((1, is_one 1 PLAN_LIMIT (omega arith) (omega arith)), (is_a_name, tt)))
 
 -- a number that tells the verbs apart
 abbrev key : List ℕ → ℕ
@@ -165,23 +170,34 @@ verb_is runs checks e = let k : ◌≡◌ {A = ℕ} 29301 25448 = keys_differ (c
 verb_is runs reports e = let k : ◌≡◌ {A = ℕ} 29301 29285 = keys_differ (codes "run") (codes "report") e in absurd (omega arith)
 verb_is runs cleans e = let k : ◌≡◌ {A = ℕ} 29301 25452 = keys_differ (codes "run") (codes "clean") e in absurd (omega arith)
 verb_is runs makes e = let k : ◌≡◌ {A = ℕ} 29301 29541 = keys_differ (codes "run") (codes "self") e in absurd (omega arith)
+verb_is runs plans e = let k : ◌≡◌ {A = ℕ} 29301 28780 = keys_differ (codes "run") (codes "plan") e in absurd (omega arith)
 verb_is checks runs e = let k : ◌≡◌ {A = ℕ} 25448 29301 = keys_differ (codes "check") (codes "run") e in absurd (omega arith)
 verb_is checks checks e = refl
 verb_is checks reports e = let k : ◌≡◌ {A = ℕ} 25448 29285 = keys_differ (codes "check") (codes "report") e in absurd (omega arith)
 verb_is checks cleans e = let k : ◌≡◌ {A = ℕ} 25448 25452 = keys_differ (codes "check") (codes "clean") e in absurd (omega arith)
 verb_is checks makes e = let k : ◌≡◌ {A = ℕ} 25448 29541 = keys_differ (codes "check") (codes "self") e in absurd (omega arith)
+verb_is checks plans e = let k : ◌≡◌ {A = ℕ} 25448 28780 = keys_differ (codes "check") (codes "plan") e in absurd (omega arith)
 verb_is reports runs e = let k : ◌≡◌ {A = ℕ} 29285 29301 = keys_differ (codes "report") (codes "run") e in absurd (omega arith)
 verb_is reports checks e = let k : ◌≡◌ {A = ℕ} 29285 25448 = keys_differ (codes "report") (codes "check") e in absurd (omega arith)
 verb_is reports reports e = refl
 verb_is reports cleans e = let k : ◌≡◌ {A = ℕ} 29285 25452 = keys_differ (codes "report") (codes "clean") e in absurd (omega arith)
 verb_is reports makes e = let k : ◌≡◌ {A = ℕ} 29285 29541 = keys_differ (codes "report") (codes "self") e in absurd (omega arith)
+verb_is reports plans e = let k : ◌≡◌ {A = ℕ} 29285 28780 = keys_differ (codes "report") (codes "plan") e in absurd (omega arith)
 verb_is cleans runs e = let k : ◌≡◌ {A = ℕ} 25452 29301 = keys_differ (codes "clean") (codes "run") e in absurd (omega arith)
 verb_is cleans checks e = let k : ◌≡◌ {A = ℕ} 25452 25448 = keys_differ (codes "clean") (codes "check") e in absurd (omega arith)
 verb_is cleans reports e = let k : ◌≡◌ {A = ℕ} 25452 29285 = keys_differ (codes "clean") (codes "report") e in absurd (omega arith)
 verb_is cleans cleans e = refl
 verb_is cleans makes e = let k : ◌≡◌ {A = ℕ} 25452 29541 = keys_differ (codes "clean") (codes "self") e in absurd (omega arith)
+verb_is cleans plans e = let k : ◌≡◌ {A = ℕ} 25452 28780 = keys_differ (codes "clean") (codes "plan") e in absurd (omega arith)
 verb_is makes runs e = let k : ◌≡◌ {A = ℕ} 29541 29301 = keys_differ (codes "self") (codes "run") e in absurd (omega arith)
 verb_is makes checks e = let k : ◌≡◌ {A = ℕ} 29541 25448 = keys_differ (codes "self") (codes "check") e in absurd (omega arith)
 verb_is makes reports e = let k : ◌≡◌ {A = ℕ} 29541 29285 = keys_differ (codes "self") (codes "report") e in absurd (omega arith)
 verb_is makes cleans e = let k : ◌≡◌ {A = ℕ} 29541 25452 = keys_differ (codes "self") (codes "clean") e in absurd (omega arith)
 verb_is makes makes e = refl
+verb_is makes plans e = let k : ◌≡◌ {A = ℕ} 29541 28780 = keys_differ (codes "self") (codes "plan") e in absurd (omega arith)
+verb_is plans runs e = let k : ◌≡◌ {A = ℕ} 28780 29301 = keys_differ (codes "plan") (codes "run") e in absurd (omega arith)
+verb_is plans checks e = let k : ◌≡◌ {A = ℕ} 28780 25448 = keys_differ (codes "plan") (codes "check") e in absurd (omega arith)
+verb_is plans reports e = let k : ◌≡◌ {A = ℕ} 28780 29285 = keys_differ (codes "plan") (codes "report") e in absurd (omega arith)
+verb_is plans cleans e = let k : ◌≡◌ {A = ℕ} 28780 25452 = keys_differ (codes "plan") (codes "clean") e in absurd (omega arith)
+verb_is plans makes e = let k : ◌≡◌ {A = ℕ} 28780 29541 = keys_differ (codes "plan") (codes "self") e in absurd (omega arith)
+verb_is plans plans e = refl

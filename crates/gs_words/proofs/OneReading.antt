@@ -5,11 +5,11 @@ use Rattle.std.proofs.lemmas.Bool.{cases_lt}
 use Rattle.std.proofs.lemmas.List.{take-append-drop}
 use Rattle.gs_types.specs.declared.settings.Settings.{Settings}
 use Rattle.gs_words.specs.declared.command.Command.{Command}
-use Rattle.gs_words.specs.declared.command.Command.TheVariants.{Run, Check, Report, Clean, SelfRun}
+use Rattle.gs_words.specs.declared.command.Command.TheVariants.{Run, Check, Report, Clean, SelfRun, Plan}
 use Rattle.std.specs.List.{slice_get}
 use Rattle.std.specs.Str.Parse.{digits_value}
 use Rattle.gs_words.specs.declared.given.Flag.{Flag}
-use Rattle.gs_words.specs.Words.{IsNumber, spelled, limit_of, Choice, AreOptions, settings_of, IsRun, IsCheck, IsSelf, Says}
+use Rattle.gs_words.specs.Words.{IsNumber, spelled, limit_of, Choice, AreOptions, settings_of, IsRun, IsCheck, IsSelf, IsPlan, Says}
 use Rattle.gs_words.specs.Usage.{IsCommand, IsBeginning, IsUsage}
 use Rattle.gs_words.specs.Laws.{SaysOne, FailsOnce}
 use Rattle.gs_words.proofs.Forms.{Word, fits_at, get_past, get_front, word_of, form_of}
@@ -70,32 +70,51 @@ self_one words s n t m a b =
     let counts : n ≡ m = a.count_says.says ∙ ap (digits_value 10) second ∙ sym b.count_says.says in
     cc
 
+plan_one : (words : List (List ℕ)) (s t : ℕ) (x y : List ℕ) → IsPlan words s x → IsPlan words t y → Plan s x ≡ Plan t y
+plan_one words s t x y a b =
+    let same : codes "plan" ∷ a.slots_word ∷ x ∷ [] ≡ codes "plan" ∷ b.slots_word ∷ y ∷ [] = sym a.words_are ∙ b.words_are in
+    let first : a.slots_word ≡ b.slots_word = cc in
+    let second : x ≡ y = cc in
+    let slots : s ≡ t = a.slots_say.says ∙ ap (digits_value 10) first ∙ sym b.slots_say.says in
+    cc
+
 pub says_one : SaysOne
 says_one words (Run i p w s) (Run j q v t) a b = run_one words i p w j q v s t a b
 says_one words (Run i p w s) (Check j q) a b = absurd (let e = same_verb words (Run i p w s) (Check j q) a b in cc)
 says_one words (Run i p w s) Report a b = absurd (let e = same_verb words (Run i p w s) Report a b in cc)
 says_one words (Run i p w s) Clean a b = absurd (let e = same_verb words (Run i p w s) Clean a b in cc)
 says_one words (Run i p w s) (SelfRun t m) a b = absurd (let e = same_verb words (Run i p w s) (SelfRun t m) a b in cc)
+says_one words (Run i p w s) (Plan t y) a b = absurd (let e = same_verb words (Run i p w s) (Plan t y) a b in cc)
 says_one words (Check i p) (Run j q v t) a b = absurd (let e = same_verb words (Check i p) (Run j q v t) a b in cc)
 says_one words (Check i p) (Check j q) a b = check_one words i p j q a b
 says_one words (Check i p) Report a b = absurd (let e = same_verb words (Check i p) Report a b in cc)
 says_one words (Check i p) Clean a b = absurd (let e = same_verb words (Check i p) Clean a b in cc)
 says_one words (Check i p) (SelfRun t m) a b = absurd (let e = same_verb words (Check i p) (SelfRun t m) a b in cc)
+says_one words (Check i p) (Plan t y) a b = absurd (let e = same_verb words (Check i p) (Plan t y) a b in cc)
 says_one words Report (Run j q v t) a b = absurd (let e = same_verb words Report (Run j q v t) a b in cc)
 says_one words Report (Check j q) a b = absurd (let e = same_verb words Report (Check j q) a b in cc)
 says_one words Report Report a b = refl
 says_one words Report Clean a b = absurd (let e = same_verb words Report Clean a b in cc)
 says_one words Report (SelfRun t m) a b = absurd (let e = same_verb words Report (SelfRun t m) a b in cc)
+says_one words Report (Plan t y) a b = absurd (let e = same_verb words Report (Plan t y) a b in cc)
 says_one words Clean (Run j q v t) a b = absurd (let e = same_verb words Clean (Run j q v t) a b in cc)
 says_one words Clean (Check j q) a b = absurd (let e = same_verb words Clean (Check j q) a b in cc)
 says_one words Clean Report a b = absurd (let e = same_verb words Clean Report a b in cc)
 says_one words Clean Clean a b = refl
 says_one words Clean (SelfRun t m) a b = absurd (let e = same_verb words Clean (SelfRun t m) a b in cc)
+says_one words Clean (Plan t y) a b = absurd (let e = same_verb words Clean (Plan t y) a b in cc)
 says_one words (SelfRun s n) (Run j q v t) a b = absurd (let e = same_verb words (SelfRun s n) (Run j q v t) a b in cc)
 says_one words (SelfRun s n) (Check j q) a b = absurd (let e = same_verb words (SelfRun s n) (Check j q) a b in cc)
 says_one words (SelfRun s n) Report a b = absurd (let e = same_verb words (SelfRun s n) Report a b in cc)
 says_one words (SelfRun s n) Clean a b = absurd (let e = same_verb words (SelfRun s n) Clean a b in cc)
 says_one words (SelfRun s n) (SelfRun t m) a b = self_one words s n t m a b
+says_one words (SelfRun s n) (Plan t y) a b = absurd (let e = same_verb words (SelfRun s n) (Plan t y) a b in cc)
+says_one words (Plan s x) (Run j q v t) a b = absurd (let e = same_verb words (Plan s x) (Run j q v t) a b in cc)
+says_one words (Plan s x) (Check j q) a b = absurd (let e = same_verb words (Plan s x) (Check j q) a b in cc)
+says_one words (Plan s x) Report a b = absurd (let e = same_verb words (Plan s x) Report a b in cc)
+says_one words (Plan s x) Clean a b = absurd (let e = same_verb words (Plan s x) Clean a b in cc)
+says_one words (Plan s x) (SelfRun t m) a b = absurd (let e = same_verb words (Plan s x) (SelfRun t m) a b in cc)
+says_one words (Plan s x) (Plan t y) a b = plan_one words s t x y a b
 
 take_less : (words : List (List ℕ)) (a b : ℕ) → a ≤ b → take a (take b words) ≡ take a words
 take_less words zero b le = refl

@@ -3,11 +3,11 @@ use Rattle.std.proofs.Common.{◌≡◌, refl, sym, ap, ◌∙◌, subst, arith,
 use Rattle.std.specs.Prelude.{◌-◌, ◌^◌, codes}
 use Rattle.std.specs.List.{slice_get}
 use Rattle.std.proofs.lemmas.List.{drop_all}
-use Rattle.gs_words.specs.declared.command.TheConstants.{SELF_LIMIT}
-use Rattle.gs_words.specs.Words.{IsCheck, IsSelf}
+use Rattle.gs_words.specs.declared.command.TheConstants.{SELF_LIMIT, PLAN_LIMIT}
+use Rattle.gs_words.specs.Words.{IsCheck, IsSelf, IsPlan}
 use Rattle.gs_words.specs.Usage.{IsUsage}
 use Rattle.gs_words.specs.Given.{IsNameAt, NoNameAt, IsNumberAt, NoNumberAt}
-use Rattle.gs_words.proofs.Forms.{Place, Word, AName, ANumber, Stands, FitsTo, one_more, none_yet, Verb, checks, reports, cleans, makes, word_of, form_of}
+use Rattle.gs_words.proofs.Forms.{Place, Word, AName, ANumber, Stands, FitsTo, one_more, none_yet, Verb, checks, reports, cleans, makes, plans, word_of, form_of}
 use Rattle.gs_words.proofs.Wrong.{IsClosed, wrong_in_form, wrong_behind}
 
 pub closed_checks : IsClosed checks
@@ -21,6 +21,9 @@ closed_cleans rest e = e
 
 pub closed_makes : IsClosed makes
 closed_makes rest e = e
+
+pub closed_plans : IsClosed plans
+closed_plans rest e = e
 
 -- one word alone
 pub word_alone_at : (words : List (List ℕ)) (v : Verb) → slice_get words 0 ≡ Some (word_of v) → length words ≤ 1 → words ≡ word_of v ∷ []
@@ -99,4 +102,12 @@ is_self words seed n verb a b le = record {
   words_are = three_alone words (codes "self") a.word b.word verb a.there b.there le;
   seed_says = a.is;
   count_says = b.is;
+}
+
+pub is_plan : (words : List (List ℕ)) (slots : ℕ) (durations : List ℕ) → slice_get words 0 ≡ Some (codes "plan") → IsNumberAt words 1 1 PLAN_LIMIT slots → IsNameAt words 2 durations → length words ≤ 3 → IsPlan words slots durations
+is_plan words slots durations verb a b le = record {
+  slots_word = a.word;
+  words_are = three_alone words (codes "plan") a.word durations verb a.there b.there le;
+  slots_say = a.is;
+  durations_name = b.is;
 }

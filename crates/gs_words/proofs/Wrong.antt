@@ -4,7 +4,7 @@ use Rattle.std.specs.List.{slice_get}
 use Rattle.std.proofs.lemmas.Bool.{cases_lt}
 use Rattle.std.proofs.lemmas.List.{take-append-drop, length-take-le}
 use Rattle.gs_words.specs.Usage.{IsCommand, IsBeginning, IsUsage}
-use Rattle.gs_words.proofs.Forms.{Place, Word, Stands, FitsTo, Wrong, fits_length, fits_at, fits_mixed, get_past, get_there, get_front, get_take, none_yet, Verb, runs, checks, reports, cleans, makes, word_of, form_of, example_of, example_fits}
+use Rattle.gs_words.proofs.Forms.{Place, Word, Stands, FitsTo, Wrong, fits_length, fits_at, fits_mixed, get_past, get_there, get_front, get_take, none_yet, Verb, runs, checks, reports, cleans, makes, plans, word_of, form_of, example_of, example_fits}
 use Rattle.gs_words.proofs.Commands.{Tail, to_form, HasFormOf, form_known, front_command}
 
 -- a command begins with each front of its words
@@ -89,8 +89,8 @@ no_verb words none = elim (cases_lt 0 (length words)) [
         let below = get_past f.front 0 there.0 there.1 in
         none f.verb (sym (same []) ∙ ap (λ (us : List (List ℕ)). slice_get us 0) f.parts ∙ get_front f.front f.rest 0 below ∙ there.1 ∙ ap Some there.2)
 
-pub no_verb_of : (words : List (List ℕ)) → ¬ (slice_get words 0 ≡ Some (word_of runs)) → ¬ (slice_get words 0 ≡ Some (word_of checks)) → ¬ (slice_get words 0 ≡ Some (word_of reports)) → ¬ (slice_get words 0 ≡ Some (word_of cleans)) → ¬ (slice_get words 0 ≡ Some (word_of makes)) → IsUsage words 0
-no_verb_of words no_run no_check no_report no_clean no_self = no_verb words of_verb
+pub no_verb_of : (words : List (List ℕ)) → ¬ (slice_get words 0 ≡ Some (word_of runs)) → ¬ (slice_get words 0 ≡ Some (word_of checks)) → ¬ (slice_get words 0 ≡ Some (word_of reports)) → ¬ (slice_get words 0 ≡ Some (word_of cleans)) → ¬ (slice_get words 0 ≡ Some (word_of makes)) → ¬ (slice_get words 0 ≡ Some (word_of plans)) → IsUsage words 0
+no_verb_of words no_run no_check no_report no_clean no_self no_plan = no_verb words of_verb
   where
     of_verb : (v : Verb) → slice_get words 0 ≡ Some (word_of v) → ⊥
     of_verb runs e = no_run e
@@ -98,3 +98,4 @@ no_verb_of words no_run no_check no_report no_clean no_self = no_verb words of_v
     of_verb reports e = no_report e
     of_verb cleans e = no_clean e
     of_verb makes e = no_self e
+    of_verb plans e = no_plan e

@@ -6,9 +6,9 @@ use Rattle.std.specs.Str.Parse.{IsNumeral, digits_value}
 use Rattle.gs_types.specs.Name.{IsName}
 use Rattle.gs_types.specs.declared.settings.Settings.{Settings}
 use Rattle.gs_types.specs.declared.limits.TheConstants.{FUEL_LIMIT, FUEL_DEFAULT, WINDOW_LIMIT, WINDOW_DEFAULT, TRIES_LIMIT, TRIES_DEFAULT}
-use Rattle.gs_words.specs.declared.command.TheConstants.{SELF_LIMIT}
+use Rattle.gs_words.specs.declared.command.TheConstants.{SELF_LIMIT, PLAN_LIMIT}
 use Rattle.gs_words.specs.declared.command.Command.{Command}
-use Rattle.gs_words.specs.declared.command.Command.TheVariants.{Run, Check, Report, Clean, SelfRun}
+use Rattle.gs_words.specs.declared.command.Command.TheVariants.{Run, Check, Report, Clean, SelfRun, Plan}
 use Rattle.gs_words.specs.declared.given.Flag.{Flag}
 use Rattle.gs_words.specs.declared.given.Flag.TheVariants.{Fuel, Window, Tries}
 
@@ -111,6 +111,13 @@ pub record IsSelf (words : List (List ℕ)) (seed n : ℕ) : Type 0 where
   pub seed_says : IsNumber 0 (2 ^ 64 - 1) seed_word seed
   pub count_says : IsNumber 1 SELF_LIMIT count_word n
 
+-- `plan`, how many slots, and the name of a file of durations
+pub record IsPlan (words : List (List ℕ)) (slots : ℕ) (durations : List ℕ) : Type 0 where
+  pub slots_word : List ℕ
+  pub words_are : words ≡ codes "plan" ∷ slots_word ∷ durations ∷ []
+  pub slots_say : IsNumber 1 PLAN_LIMIT slots_word slots
+  pub durations_name : IsName durations
+
 -- the words say the command
 abbrev pub Says : List (List ℕ) → Command → Type 0
 Says words (Run idl program workers settings) = IsRun words idl program workers settings
@@ -118,3 +125,4 @@ Says words (Check idl program) = IsCheck words idl program
 Says words Report = words ≡ codes "report" ∷ []
 Says words Clean = words ≡ codes "clean" ∷ []
 Says words (SelfRun seed n) = IsSelf words seed n
+Says words (Plan slots durations) = IsPlan words slots durations

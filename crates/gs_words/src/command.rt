@@ -4,8 +4,11 @@ use gs_types::{Name, Settings};
 /// Tasks of a run that makes itself. The least is 1.
 pub const SELF_LIMIT: u64 = 2_000;
 
+/// Slots of a plan. The least is 1.
+pub const PLAN_LIMIT: u64 = 1_024;
+
 /// The commands: `run IDL PROGRAM WORKERS` with its options, `check IDL PROGRAM`, `report`, `clean`,
-/// and `self SEED N`.
+/// `self SEED N`, and `plan SLOTS DURATIONS`.
 #[derive(Drop)]
 pub enum Command {
     Run {
@@ -23,6 +26,10 @@ pub enum Command {
     SelfRun {
         seed: u64,
         n: u32,
+    },
+    Plan {
+        slots: u32,
+        durations: Name,
     },
 }
 

@@ -10,6 +10,6 @@ mod reading;
 mod tests;
 mod words;
 
-pub use command::{Command, SELF_LIMIT, Usage};
+pub use command::{Command, PLAN_LIMIT, SELF_LIMIT, Usage};
 pub use laws::one_reading;
 pub use reading::read;

@@ -6,7 +6,7 @@ ghost use Rattle.gs_words.specs.Usage.{IsReading};
 
 use crate::options::read_options;
 use crate::words::{has_word, name_at, number_at};
-use crate::{Command, SELF_LIMIT, Usage};
+use crate::{Command, PLAN_LIMIT, SELF_LIMIT, Usage};
 
 // Behind so many words there is none.
 fn end_at(words: &Vec<String>, at: u32) -> Result<(), Usage>
@@ -71,6 +71,19 @@ fn read_clean(words: &Vec<String>) -> Result<Command, Usage>
     Ok(Command::Clean)
 }
 
+fn read_plan(words: &Vec<String>) -> Result<Command, Usage>
+    requires { slice_get (map string_bytes words.now.items) 0 ≡ Some (codes "plan") }
+    ensures { IsReading (map string_bytes words.now.items) result }
+{
+    let slots = number_at(words, 1, 1, PLAN_LIMIT)?;
+    let durations = name_at(words, 2)?;
+    end_at(words, 3)?;
+    Ok(Command::Plan {
+        slots: slots as u32,
+        durations,
+    })
+}
+
 /// The command that the words say: a verb, its names or numbers, and behind those of `run` the
 /// options `--fuel`, `--window` and `--tries`, each with its number and at most once. Numbers are 1
 /// to 20 digits within their limits. The error is the place, from 0, of the first word with which
@@ -92,6 +105,9 @@ pub fn read(words: &Vec<String>) -> Result<Command, Usage>
     }
     if has_word(words, 0, "self") {
         return read_self(words);
+    }
+    if has_word(words, 0, "plan") {
+        return read_plan(words);
     }
     Err(Usage { word: 0 })
 }

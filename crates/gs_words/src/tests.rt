@@ -88,6 +88,12 @@ fn words_stop_at_the_first_that_no_command_goes_on_with(rt: HostRuntime) -> Resu
         ("self 1 2001", 2),
         ("self 18446744073709551616 1", 1),
         ("self 1 5 5", 3),
+        ("plan d", 1),
+        ("plan 0 d", 1),
+        ("plan 1025 d", 1),
+        ("plan 2", 2),
+        ("plan 2 .d", 2),
+        ("plan 2 d --fuel", 3),
     ];
     for (line, place) in cases {
         assert!(rt; stops_at(alloc, line, place)?, "{line}");
@@ -111,6 +117,13 @@ fn the_other_verbs_are_read(rt: HostRuntime) -> Result<(), Fail> {
             })
         )
     );
+    match read(&words(alloc, "plan 01024 -d")?) {
+        Ok(Command::Plan { slots, durations }) => {
+            assert_eq!(rt; slots, 1_024);
+            assert_eq!(rt; durations.bytes(), b"-d".as_slice());
+        }
+        _ => assert!(rt; false),
+    }
     let names = read(&words(alloc, "check -a --fuel")?);
     assert!(rt; matches!(names, Ok(Command::Check { .. })));
     Ok(())

@@ -75,53 +75,59 @@ IsOther (Err (stop.Usage word)) = Unit {0}
 IsOther (Err (stop.NoText name)) = Unit {0}
 IsOther (Err (stop.BadText name line kind)) = Unit {0}
 IsOther (Err (stop.Fault line kind)) = Unit {0}
-IsOther (Err (stop.FuelOut fuel)) = Unit {0}
+IsOther (Err (stop.FuelOut steps)) = Unit {0}
+IsOther (Err (stop.BadStore why)) = Unit {0}
+IsOther (Err stop.Gated) = Unit {0}
+IsOther (Err stop.NoRun) = Unit {0}
 IsOther (Err stop.Disk) = Unit {0}
 IsOther (Err stop.Sink) = Unit {0}
 IsOther (Err stop.Memory) = Unit {0}
 
-other_cause : (d e k l o p : ℕ) (answer : Result Unit Stop) → IsOther answer → Cause d e k l o p
-    answer → Cause d e 1 0 o p answer
-other_cause d e k l o p (Ok done) other cause = cause
-other_cause d e k l o p (Err (stop.Lost n)) other cause = absurd other
-other_cause d e k l o p (Err (stop.Usage word)) other cause = cause
-other_cause d e k l o p (Err (stop.NoText name)) other cause = cause
-other_cause d e k l o p (Err (stop.BadText name line kind)) other cause = cause
-other_cause d e k l o p (Err (stop.Fault line kind)) other cause = cause
-other_cause d e k l o p (Err (stop.FuelOut fuel)) other cause = cause
-other_cause d e k l o p (Err stop.Disk) other cause = cause
-other_cause d e k l o p (Err stop.Sink) other cause = cause
-other_cause d e k l o p (Err stop.Memory) other cause = cause
+other_cause : (fuel d e k l o p : ℕ) (answer : Result Unit Stop) → IsOther answer → Cause fuel d e k l o p
+    answer → Cause fuel d e 1 0 o p answer
+other_cause fuel d e k l o p (Ok done) other cause = cause
+other_cause fuel d e k l o p (Err (stop.Lost n)) other cause = absurd other
+other_cause fuel d e k l o p (Err (stop.Usage word)) other cause = cause
+other_cause fuel d e k l o p (Err (stop.NoText name)) other cause = cause
+other_cause fuel d e k l o p (Err (stop.BadText name line kind)) other cause = cause
+other_cause fuel d e k l o p (Err (stop.Fault line kind)) other cause = cause
+other_cause fuel d e k l o p (Err (stop.FuelOut steps)) other cause = cause
+other_cause fuel d e k l o p (Err (stop.BadStore why)) other cause = cause
+other_cause fuel d e k l o p (Err stop.Gated) other cause = cause
+other_cause fuel d e k l o p (Err stop.NoRun) other cause = cause
+other_cause fuel d e k l o p (Err stop.Disk) other cause = cause
+other_cause fuel d e k l o p (Err stop.Sink) other cause = cause
+other_cause fuel d e k l o p (Err stop.Memory) other cause = cause
 
 no_rise : Rises 1 0 → ⊥
 no_rise rise = omega arith
 
 -- the folder's texts say one run
-same_run : (folder : Folder) (idl program workers : List ℕ) (i j : Interface) (p s : Program) (w v :
+same_run : (fuel : ℕ) (folder : Folder) (idl program workers : List ℕ) (i j : Interface) (p s : Program) (w v :
     Worker) → Served folder idl program workers i p w → Served folder idl program workers j s v →
-    run_in idl program i p filters folder ≡ run_in idl program j s filters folder
-same_run folder idl program workers i j p s w v a b =
-    ap (λ (x : Interface). run_in idl program x p filters folder) (one_interface (folder idl) i j
+    run_in fuel idl program i p filters folder ≡ run_in fuel idl program j s filters folder
+same_run fuel folder idl program workers i j p s w v a b =
+    ap (λ (x : Interface). run_in fuel idl program x p filters folder) (one_interface (folder idl) i j
     a.texts.interface b.texts.interface)
-    ∙ ap (λ (x : Program). run_in idl program j x filters folder) (one_tree (folder program) p s
+    ∙ ap (λ (x : Program). run_in fuel idl program j x filters folder) (one_tree (folder program) p s
     a.texts.program b.texts.program)
 
-others_inside : (told wrote : Type 0) (old new : DiskState) (before after : InsideLink) (link_old
+others_inside : (fuel : ℕ) (told wrote : Type 0) (old new : DiskState) (before after : InsideLink) (link_old
     link_new out_old out_new : ℕ) (written_old written_new idl program workers : List ℕ) (answer :
     Result Unit Stop) → IsOther answer
-    → Ran told wrote old new filters (IsTold before) (IsTold after) link_old link_new out_old
+    → Ran fuel told wrote old new filters (IsTold before) (IsTold after) link_old link_new out_old
     out_new written_old written_new idl program workers answer
     → told → (i : Interface) (p : Program) (worker : Worker) → Served old.folder idl program workers
     i p worker
-    → (k : ℕ) (z : Question) → EndsIn (run_in idl program i p filters old.folder) k z
+    → (k : ℕ) (z : Question) → EndsIn (run_in fuel idl program i p filters old.folder) k z
     → (Rises old.faults new.faults → ⊥) → (Rises out_old out_new → ⊥)
     → IsStatusOf z (status_of answer) ⊎ (status_of answer ≡ 12)
-others_inside t wrote old new before after link_old link_new out_old out_new v w idl program workers
+others_inside fuel t wrote old new before after link_old link_new out_old out_new v w idl program workers
     answer other ran here i p worker served k z ends disk out =
-    ends_so t wrote old new filters (IsTold before) (IsTold after) 1 0 out_old out_new v w idl
+    ends_so fuel t wrote old new filters (IsTold before) (IsTold after) 1 0 out_old out_new v w idl
     program workers answer
     (record {
-      cause = other_cause old.faults new.faults link_old link_new out_old out_new answer other
+      cause = other_cause fuel old.faults new.faults link_old link_new out_old out_new answer other
           ran.cause;
       judged = ran.judged;
       left = ran.left;
@@ -130,56 +136,62 @@ others_inside t wrote old new before after link_old link_new out_old out_new v w
     })
     here i p worker served k z ends (told before) refl disk no_rise out
 
-pub ends_inside : (told wrote : Type 0) (old new : DiskState) (before after : InsideLink) (link_old
+pub ends_inside : (fuel : ℕ) (told wrote : Type 0) (old new : DiskState) (before after : InsideLink) (link_old
     link_new out_old out_new : ℕ) (written_old written_new idl program workers : List ℕ) (answer :
     Result Unit Stop)
-    → Ran told wrote old new filters (IsTold before) (IsTold after) link_old link_new out_old
+    → Ran fuel told wrote old new filters (IsTold before) (IsTold after) link_old link_new out_old
     out_new written_old written_new idl program workers answer
     → told → (i : Interface) (p : Program) (worker : Worker) → Served old.folder idl program workers
     i p worker
-    → (k : ℕ) (z : Question) → EndsIn (run_in idl program i p filters old.folder) k z
+    → (k : ℕ) (z : Question) → EndsIn (run_in fuel idl program i p filters old.folder) k z
     → (Rises old.faults new.faults → ⊥) → (Rises out_old out_new → ⊥)
     → IsStatusOf z (status_of answer) ⊎ (status_of answer ≡ 12)
-ends_inside t wrote old new before after link_old link_new out_old out_new v w idl program workers
+ends_inside fuel t wrote old new before after link_old link_new out_old out_new v w idl program workers
     (Err (stop.Lost n)) ran here i p worker served k z ends disk out =
     let r = ran.happened here (told before) refl in
-    let same = same_run old.folder idl program workers i r.0 p r.1 worker r.2 served r.3 in
-    absurd (lost_never_ends after r.2.program (run_in idl program r.0 r.1 filters old.folder) (told
+    let same = same_run fuel old.folder idl program workers i r.0 p r.1 worker r.2 served r.3 in
+    absurd (lost_never_ends after r.2.program (run_in fuel idl program r.0 r.1 filters old.folder) (told
     before) n k z refl r.4
     (subst (λ (x : Run). EndsIn x k z) same ends))
-ends_inside t wrote old new before after link_old link_new out_old out_new v w idl program workers
+ends_inside fuel t wrote old new before after link_old link_new out_old out_new v w idl program workers
     (Ok done) ran here i p worker served k z ends disk out =
-    others_inside t wrote old new before after link_old link_new out_old out_new v w idl program
+    others_inside fuel t wrote old new before after link_old link_new out_old out_new v w idl program
     workers (Ok done) tt ran here i p worker served k z ends disk out
-ends_inside t wrote old new before after link_old link_new out_old out_new v w idl program workers
+ends_inside fuel t wrote old new before after link_old link_new out_old out_new v w idl program workers
     (Err (stop.Usage word)) ran here i p worker served k z ends disk out =
-    others_inside t wrote old new before after link_old link_new out_old out_new v w idl program
+    others_inside fuel t wrote old new before after link_old link_new out_old out_new v w idl program
     workers (Err (stop.Usage word)) tt ran here i p worker served k z ends disk out
-ends_inside t wrote old new before after link_old link_new out_old out_new v w idl program workers
+ends_inside fuel t wrote old new before after link_old link_new out_old out_new v w idl program workers
     (Err (stop.NoText name)) ran here i p worker served k z ends disk out =
-    others_inside t wrote old new before after link_old link_new out_old out_new v w idl program
+    others_inside fuel t wrote old new before after link_old link_new out_old out_new v w idl program
     workers (Err (stop.NoText name)) tt ran here i p worker served k z ends disk out
-ends_inside t wrote old new before after link_old link_new out_old out_new v w idl program workers
+ends_inside fuel t wrote old new before after link_old link_new out_old out_new v w idl program workers
     (Err (stop.BadText name line kind)) ran here i p worker served k z ends disk out =
-    others_inside t wrote old new before after link_old link_new out_old out_new v w idl program
+    others_inside fuel t wrote old new before after link_old link_new out_old out_new v w idl program
     workers (Err (stop.BadText name line kind)) tt ran here i p worker served k z ends disk out
-ends_inside t wrote old new before after link_old link_new out_old out_new v w idl program workers
+ends_inside fuel t wrote old new before after link_old link_new out_old out_new v w idl program workers
     (Err (stop.Fault line kind)) ran here i p worker served k z ends disk out =
-    others_inside t wrote old new before after link_old link_new out_old out_new v w idl program
+    others_inside fuel t wrote old new before after link_old link_new out_old out_new v w idl program
     workers (Err (stop.Fault line kind)) tt ran here i p worker served k z ends disk out
-ends_inside t wrote old new before after link_old link_new out_old out_new v w idl program workers
-    (Err (stop.FuelOut fuel)) ran here i p worker served k z ends disk out =
-    others_inside t wrote old new before after link_old link_new out_old out_new v w idl program
-    workers (Err (stop.FuelOut fuel)) tt ran here i p worker served k z ends disk out
-ends_inside t wrote old new before after link_old link_new out_old out_new v w idl program workers
+ends_inside fuel t wrote old new before after link_old link_new out_old out_new v w idl program workers
+    (Err (stop.FuelOut steps)) ran here i p worker served k z ends disk out =
+    others_inside fuel t wrote old new before after link_old link_new out_old out_new v w idl program
+    workers (Err (stop.FuelOut steps)) tt ran here i p worker served k z ends disk out
+ends_inside fuel t wrote old new before after link_old link_new out_old out_new v w idl program workers
+    (Err (stop.BadStore why)) ran here i p worker served k z ends disk out = absurd ran.cause
+ends_inside fuel t wrote old new before after link_old link_new out_old out_new v w idl program workers
+    (Err stop.Gated) ran here i p worker served k z ends disk out = absurd ran.cause
+ends_inside fuel t wrote old new before after link_old link_new out_old out_new v w idl program workers
+    (Err stop.NoRun) ran here i p worker served k z ends disk out = absurd ran.cause
+ends_inside fuel t wrote old new before after link_old link_new out_old out_new v w idl program workers
     (Err stop.Disk) ran here i p worker served k z ends disk out =
-    others_inside t wrote old new before after link_old link_new out_old out_new v w idl program
+    others_inside fuel t wrote old new before after link_old link_new out_old out_new v w idl program
     workers (Err stop.Disk) tt ran here i p worker served k z ends disk out
-ends_inside t wrote old new before after link_old link_new out_old out_new v w idl program workers
+ends_inside fuel t wrote old new before after link_old link_new out_old out_new v w idl program workers
     (Err stop.Sink) ran here i p worker served k z ends disk out =
-    others_inside t wrote old new before after link_old link_new out_old out_new v w idl program
+    others_inside fuel t wrote old new before after link_old link_new out_old out_new v w idl program
     workers (Err stop.Sink) tt ran here i p worker served k z ends disk out
-ends_inside t wrote old new before after link_old link_new out_old out_new v w idl program workers
+ends_inside fuel t wrote old new before after link_old link_new out_old out_new v w idl program workers
     (Err stop.Memory) ran here i p worker served k z ends disk out =
-    others_inside t wrote old new before after link_old link_new out_old out_new v w idl program
+    others_inside fuel t wrote old new before after link_old link_new out_old out_new v w idl program
     workers (Err stop.Memory) tt ran here i p worker served k z ends disk out

@@ -11,13 +11,19 @@ ghost use Rattle.gs_site.specs.Link.{IsIdle};
 ghost use Rattle.gs_site.specs.Site.{disk_of, link_of};
 ghost use Rattle.gs_filters.specs.Filters.{filters};
 ghost use Rattle.gs_filters.specs.Inside.{IsTold, jobs_of, faults_of};
-ghost use Rattle.gs_run.specs.Asked.{Wish, Asks, IsNoRun, IsNothing};
+ghost use Rattle.gs_types.specs.declared.settings.Settings.{Settings};
+ghost use Rattle.gs_words.specs.Usage.{IsReading};
+ghost use Rattle.gs_words.specs.Words.{IsCheck, IsRun, Says};
+ghost use Rattle.gs_words.specs.declared.command.Command.TheVariants as commands;
+ghost use Rattle.gs_verbs.specs.Reporting.{HasStore};
+ghost use Rattle.gs_verbs.specs.Cleaning.{HasGated};
+ghost use Rattle.gs_verbs.specs.Planning.{HasPlan};
+ghost use Rattle.gs_run.specs.Asked.{Wish, IsNoRun, IsNothing};
 ghost use Rattle.gs_run.specs.Checking.{HoldsBoth};
 ghost use Rattle.gs_run.specs.Did.{Did};
 ghost use Rattle.gs_run.specs.Ran.{run_in, IsStatusOf};
 ghost use Rattle.gs_run.specs.Served.{Served};
 ghost use Rattle.gs_run.specs.Stop.{status_of, message_of};
-ghost use Rattle.gs_run.specs.Words.{IsCheck, IsRun};
 ghost use Rattle.gs_run.specs.declared.stop.Stop.{Stop};
 
 use gs_disk::Disk;
@@ -28,7 +34,8 @@ use gs_types::Sink;
 use std::alloc::Global;
 
 /// `gs` over built-in operations, on a site with no job in flight, which it leaves with none: its
-/// words, statuses, lines and promises (`did`, `checks`), under the law of the operations. Where the
+/// words, statuses, lines and promises (`did`, `checks`, `reports`, `cleans`, `plans`), under the law
+/// of the operations. Where the
 /// sequential run under that law ends, and neither the disk's nor the output's count of faults
 /// rises, the status is that of its end: 0, 7 for a fault of the program, 8 where the fuel ran out;
 /// or 12, for want of memory. Nothing is assumed of commands.
@@ -42,7 +49,7 @@ pub fn gs_inside<D: Disk, O: Sink, E: Sink>(
     requires idle { IsIdle (jobs_of (link_of site.old)) }
     ensures idle { IsIdle (jobs_of (link_of site.new)) }
     ensures did { (wish : Wish) × (answer : Result Unit Stop)
-        × Asks (map string_bytes words.now.items) wish × (result ≡ status_of answer)
+        × IsReading (map string_bytes words.now.items) wish × (result ≡ status_of answer)
         × Did D.tells O.tells (D.state (disk_of site.old)) (D.state (disk_of site.new)) filters
         (IsTold (link_of site.old)) (IsTold (link_of site.new))
         (faults_of (link_of site.old)) (faults_of (link_of site.new))
@@ -53,12 +60,13 @@ pub fn gs_inside<D: Disk, O: Sink, E: Sink>(
         × (IsNothing wish → (disk_of site.new ≡ disk_of site.old) × (out.new ≡ out.old)) }
 
     // A run that ends, and no fault of disk and output: its status, or want of memory.
-    ensures complete { D.tells → (idl program workers : List ℕ)
-        → IsRun (map string_bytes words.now.items) idl program workers
+    ensures complete { D.tells → (idl program workers : List ℕ) (settings : Settings)
+        → IsRun (map string_bytes words.now.items) idl program workers settings
         → (i : Interface) (p : Program) (worker : Worker)
         → Served (D.state (disk_of site.old)).folder idl program workers i p worker
         → (k : ℕ) (q : question.Question)
-        → EndsIn (run_in idl program i p filters (D.state (disk_of site.old)).folder) k q
+        → EndsIn (run_in settings.fuel idl program i p filters
+        (D.state (disk_of site.old)).folder) k q
         → (Rises (D.state (disk_of site.old)).faults (D.state (disk_of site.new)).faults → ⊥)
         → (Rises (O.faults out.old) (O.faults out.new) → ⊥)
         → IsStatusOf q result ⊎ (result ≡ 12) }
@@ -67,6 +75,23 @@ pub fn gs_inside<D: Disk, O: Sink, E: Sink>(
     ensures checks { D.tells → (idl program : List ℕ)
         → IsCheck (map string_bytes words.now.items) idl program
         → HoldsBoth (D.state (disk_of site.old)).folder idl program
+        → (Rises (D.state (disk_of site.old)).faults (D.state (disk_of site.new)).faults → ⊥)
+        → (Rises (O.faults out.old) (O.faults out.new) → ⊥)
+        → (result ≡ 0) ⊎ (result ≡ 12) }
+
+    // Of a report, a removal and a plan.
+    ensures reports { D.tells → Says (map string_bytes words.now.items) commands.Report
+        → HasStore (D.state (disk_of site.old)).folder
+        → (Rises (D.state (disk_of site.old)).faults (D.state (disk_of site.new)).faults → ⊥)
+        → (Rises (O.faults out.old) (O.faults out.new) → ⊥)
+        → (result ≡ 0) ⊎ (result ≡ 12) }
+    ensures cleans { D.tells → Says (map string_bytes words.now.items) commands.Clean
+        → (HasGated (D.state (disk_of site.old)).folder → ⊥)
+        → (Rises (D.state (disk_of site.old)).faults (D.state (disk_of site.new)).faults → ⊥)
+        → (result ≡ 0) ⊎ (result ≡ 12) }
+    ensures plans { D.tells → (slots : ℕ) (durations : List ℕ)
+        → Says (map string_bytes words.now.items) (commands.Plan slots durations)
+        → HasPlan slots (D.state (disk_of site.old)).folder durations
         → (Rises (D.state (disk_of site.old)).faults (D.state (disk_of site.new)).faults → ⊥)
         → (Rises (O.faults out.old) (O.faults out.new) → ⊥)
         → (result ≡ 0) ⊎ (result ≡ 12) }

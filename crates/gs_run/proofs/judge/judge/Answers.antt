@@ -1,4 +1,4 @@
-use Rattle.std.proofs.Common.{sym, ap, subst, Err}
+use Rattle.std.proofs.Common.{sym, subst, Err}
 use Rattle.gs_form.specs.declared.worker.Worker.{Worker}
 use Rattle.gs_check.specs.Passing.{program_in, interface_in}
 use Rattle.gs_run.specs.Judging.{JudgeTold, WorkerOf}

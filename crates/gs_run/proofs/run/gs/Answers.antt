@@ -1,17 +1,21 @@
 use Rattle.std.proofs.Common.{◌≡◌, ◌⊎◌, ℕ, map, sym, subst}
 use Rattle.std.specs.String.{string_bytes}
-use Rattle.gs_site.specs.Site.{disk_of, link_of}
-use Rattle.gs_run.specs.Asked.{wish_of}
 use Rattle.gs_run.specs.Ran.{IsStatusOf}
 use Rattle.gs_run.proofs.Checks.{checks_so}
-use Rattle.gs_run.proofs.Conclusions.{ends_so, did_run, did_check}
+use Rattle.gs_run.proofs.Conclusions.{ends_so, did_run, did_check, did_report, did_clean, did_plan}
+use Rattle.gs_run.proofs.Serving.{has_slots, report_so, clean_so, plan_so}
 use Rattle.gs_run.proofs.run.gs.Goals as goal
+
+pub serve-answer-requires-clause-slots : goal.serve-answer-requires-clause-slots
+serve-answer-requires-clause-slots g c =
+    has_slots (map string_bytes c.args.words.now.items) c.read-command.result
+    c.read-command.ensures
 
 pub returns-clause-did : goal.returns-clause-did
 returns-clause-did g c = (
-  wish_of c.read_words-command.result,
+  c.read-command.result,
   c.serve-answer.result,
-  c.read_words-command.ensures,
+  c.read-command.ensures,
   c.report.ensures.status,
   c.serve-answer.ensures.did,
   c.report.ensures.line,
@@ -21,12 +25,12 @@ returns-clause-did g c = (
 
 pub returns-clause-complete : goal.returns-clause-complete
 returns-clause-complete g c =
-    λ told idl program workers run i p worker served k z ends past h disk link out.
+    λ told idl program workers settings run i p worker served k z ends past h disk link out.
     subst (λ (n : ℕ). IsStatusOf z n ⊎ (n ≡ 12)) (sym c.report.ensures.status)
-    (ends_so _ _ _ _ _ _ _ _ _ _ _ _ _ idl program workers c.serve-answer.result
+    (ends_so settings.fuel _ _ _ _ _ _ _ _ _ _ _ _ _ idl program workers c.serve-answer.result
     (did_run _ _ _ _ _ _ _ _ _ _ _ _ _ (map string_bytes c.args.words.now.items)
-    (wish_of c.read_words-command.result) idl program workers c.serve-answer.result
-    c.read_words-command.ensures run c.serve-answer.ensures.did)
+    c.read-command.result idl program workers settings c.serve-answer.result
+    c.read-command.ensures run c.serve-answer.ensures.did)
     told i p worker served k z ends past h disk link out)
 
 pub returns-clause-checks : goal.returns-clause-checks
@@ -34,6 +38,33 @@ returns-clause-checks g c = λ told idl program check holds disk out.
     subst (λ (n : ℕ). (n ≡ 0) ⊎ (n ≡ 12)) (sym c.report.ensures.status)
     (checks_so _ _ _ _ _ _ _ _ idl program c.serve-answer.result
     (did_check _ _ _ _ _ _ _ _ _ _ _ _ _ (map string_bytes c.args.words.now.items)
-    (wish_of c.read_words-command.result) idl program c.serve-answer.result
-    c.read_words-command.ensures check c.serve-answer.ensures.did)
+    c.read-command.result idl program c.serve-answer.result
+    c.read-command.ensures check c.serve-answer.ensures.did)
     told holds disk out)
+
+pub returns-clause-reports : goal.returns-clause-reports
+returns-clause-reports g c = λ told says has disk out.
+    subst (λ (n : ℕ). (n ≡ 0) ⊎ (n ≡ 12)) (sym c.report.ensures.status)
+    (report_so _ _ _ _ _ _ _ _ c.serve-answer.result
+    (did_report _ _ _ _ _ _ _ _ _ _ _ _ _ (map string_bytes c.args.words.now.items)
+    c.read-command.result c.serve-answer.result
+    c.read-command.ensures says c.serve-answer.ensures.did)
+    told has disk out)
+
+pub returns-clause-cleans : goal.returns-clause-cleans
+returns-clause-cleans g c = λ told says free disk.
+    subst (λ (n : ℕ). (n ≡ 0) ⊎ (n ≡ 12)) (sym c.report.ensures.status)
+    (clean_so _ _ _ _ _ _ c.serve-answer.result
+    (did_clean _ _ _ _ _ _ _ _ _ _ _ _ _ (map string_bytes c.args.words.now.items)
+    c.read-command.result c.serve-answer.result
+    c.read-command.ensures says c.serve-answer.ensures.did)
+    told free disk)
+
+pub returns-clause-plans : goal.returns-clause-plans
+returns-clause-plans g c = λ told slots durations says has disk out.
+    subst (λ (n : ℕ). (n ≡ 0) ⊎ (n ≡ 12)) (sym c.report.ensures.status)
+    (plan_so _ _ _ _ _ _ _ _ slots durations c.serve-answer.result
+    (did_plan _ _ _ _ _ _ _ _ _ _ _ _ _ (map string_bytes c.args.words.now.items)
+    c.read-command.result slots durations c.serve-answer.result
+    c.read-command.ensures says c.serve-answer.ensures.did)
+    told has disk out)

@@ -12,3 +12,4 @@ returns c =
     (not_from_Decides c.has_word-3.result c.has_word-3.ensures c.if-has_word-3.false)
     (not_from_Decides c.has_word-4.result c.has_word-4.ensures c.if-has_word-4.false)
     (not_from_Decides c.has_word-5.result c.has_word-5.ensures c.if-has_word-5.false)
+    (not_from_Decides c.has_word-6.result c.has_word-6.ensures c.if-has_word-6.false)

@@ -9,11 +9,11 @@ use Rattle.gsin.proofs.inside.gs_inside.Goals as goal
 
 pub returns-clause-complete : goal.returns-clause-complete
 returns-clause-complete g c =
-    λ told idl program workers run i p worker served k z ends disk out.
+    λ told idl program workers settings run i p worker served k z ends disk out.
     let did = c.gs.ensures.did in
     subst (λ (n : ℕ). IsStatusOf z n ⊎ (n ≡ 12)) (sym did.3)
-    (ends_inside _ _ _ _ (link_of c.args.site.now) (link_of c.gs.new.site) _ _ _ _ _ _ idl program
+    (ends_inside settings.fuel _ _ _ _ (link_of c.args.site.now) (link_of c.gs.new.site) _ _ _ _ _ _ idl program
     workers did.1
     (did_run _ _ _ _ _ _ _ _ _ _ _ _ _ (map string_bytes c.args.words.now.items) did.0 idl program
-    workers did.1 did.2 run did.4)
+    workers settings did.1 did.2 run did.4)
     told i p worker served k z ends disk out)

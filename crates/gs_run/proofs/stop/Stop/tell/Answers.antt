@@ -11,8 +11,8 @@ returns-in-Lost-clause-all g c = λ told. parts_line c.tell_parts-in-Lost.result
     told)
 
 pub returns-in-Disk-clause-all : goal.returns-in-Disk-clause-all
-returns-in-Disk-clause-all g c = λ told. whole_line c.put_all.result _ _ _ _
-    (ap line_of c.in-Disk.is) (c.put_all.ensures.all told)
+returns-in-Disk-clause-all g c = λ told. whole_line c.put_all-in-Disk.result _ _ _ _
+    (ap line_of c.in-Disk.is) (c.put_all-in-Disk.ensures.all told)
 
 pub returns-in-Sink-clause-all : goal.returns-in-Sink-clause-all
 returns-in-Sink-clause-all g c = λ told. whole_line c.put_all-in-Sink.result _ _ _ _

@@ -1,0 +1,5 @@
+pub mod Finding
+pub mod Reporting
+pub mod Cleaning
+pub mod Planning
+pub mod Laws
