@@ -1,6 +1,7 @@
 #!/bin/sh
 # Proves and builds crates of this repository and those that they stand on. Crates that don't stand on each other are
-# proved side by side: as many as there are processors, and as memory holds at 3 GB each. A line says each as it is done.
+# begun side by side: as many as there are processors, and as memory holds at 3 GB each. A line says each as it is done.
+# So far `rt` lets those wait for each other that share a crate below them, since a run keeps all of these to itself.
 # Usage: sh build.sh NAME ..
 top=$(cd "$(dirname "$0")" && pwd) && cd "$top" || exit 1
 [ $# -gt 0 ] || { echo "usage: sh build.sh NAME .., with names of crates.txt"; exit 2; }
