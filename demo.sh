@@ -2,7 +2,7 @@
 # Proves and builds gs, runs the example study in a new folder, and shows what it left.
 set -e
 top=$(cd "$(dirname "$0")" && pwd)
-echo "== proving and building: most of an hour on a machine where nothing is kept"
+echo "== proving and building: many minutes on a machine where nothing is kept"
 sh "$top/build.sh" gs
 gs="$top/crates/gs/out/gs"
 folder=$(mktemp -d)
