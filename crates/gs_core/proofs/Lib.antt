@@ -19,3 +19,5 @@ pub mod Beginnings
 pub mod Idle
 pub mod Rosters
 pub mod Leaving
+pub mod Known
+pub mod KnownTasks

@@ -22,4 +22,6 @@ mod serial;
 #[cfg(test)]
 mod shown;
 #[cfg(test)]
+mod tasks;
+#[cfg(test)]
 mod waits;
