@@ -8,5 +8,6 @@ pub mod Link
 pub mod Marks
 pub mod Memory
 pub mod Past
+pub mod Recorded
 pub mod Site
 pub mod Turns
