@@ -22,6 +22,4 @@ mod serial;
 #[cfg(test)]
 mod shown;
 #[cfg(test)]
-mod tasks;
-#[cfg(test)]
 mod waits;

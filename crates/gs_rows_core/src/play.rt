@@ -21,8 +21,8 @@ pub enum Event {
     Fails(u32),
 }
 
-/// Answers steps, as far as the core goes.
-pub fn settle(core: &mut Core, desk: &mut Desk<'_>) -> Result<(), NoMemory>
+// Answers steps, as far as the core goes.
+fn settle(core: &mut Core, desk: &mut Desk<'_>) -> Result<(), NoMemory>
     requires { IsDue core.old }
     ensures { OnOk result (IsSettled core.new) }
 {

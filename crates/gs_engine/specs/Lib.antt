@@ -1,0 +1,9 @@
+pub mod Reading
+pub mod Joined
+pub mod Sane
+pub mod Steps
+pub mod Starting
+pub mod Beginning
+pub mod Sealing
+pub mod Running
+pub mod Waiting
