@@ -57,6 +57,8 @@ module _ {K : Type 0} {tells : K → History → Type 0} where
     whole = λ cut. went.goes_on;
     recorded = went.recorded;
     shows = went.shows;
+    kept = went.kept;
+    running = went.running;
     sound = went.sound;
     closed = went.closed;
   }
@@ -79,6 +81,8 @@ module _ {K : Type 0} {tells : K → History → Type 0} where
         recorded = went.recorded;
         shows = shows_cut T call.setup (went.history ++ before)
             (abandoned ∷ went.history ++ before) e cut went.sound went.shows;
+        kept = λ other. absurd (other cut);
+        running = went.running;
         sound = went.sound;
         closed = went.closed;
       }
@@ -90,6 +94,8 @@ module _ {K : Type 0} {tells : K → History → Type 0} where
     whole = λ cut. went.goes_on;
     recorded = went.recorded;
     shows = went.shows;
+    kept = went.kept;
+    running = went.running;
     sound = went.sound;
     closed = went.closed;
   }

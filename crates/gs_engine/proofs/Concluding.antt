@@ -20,10 +20,11 @@ use Rattle.gs_life.specs.Called.{Closes}
 use Rattle.gs_life.specs.Origin.{Origin}
 use Rattle.gs_engine.specs.Joined.{Course, Moment, Joined}
 use Rattle.gs_engine.specs.Reading.{LacksLength}
-use Rattle.gs_engine.specs.Running.{IsCut, IsDiskFault, IsGivenUp, LacksLengthIn, Shows, Concludes, fault_of_halt}
+use Rattle.gs_engine.specs.Running.{IsCut, IsCutShort, IsDiskFault, IsFruitless, IsGivenUp, LacksLengthIn, Shows, Concludes, fault_of_halt}
 use Rattle.gs_engine.specs.Sealing.{WhereEnded}
 use Rattle.gs_engine.specs.declared.running.RunFault.{RunFault}
 use Rattle.gs_engine.specs.declared.running.RunFault.TheVariants as fault
+use Rattle.gs_engine.proofs.Keeping.{keeps_plain, keeps_sealed, runs_plain}
 use Rattle.gs_engine.proofs.Standing.{same_stands}
 
 abbrev pub failing : {T : Type 0} → RunFault → Result T RunFault
@@ -46,6 +47,11 @@ pub halt_cut : (e : Halt) → IsCut (fault_of_halt e)
 halt_cut Disk = tt
 halt_cut NoMemory = tt
 halt_cut (Lost v kept n) = tt
+
+pub halt_fruitless : (T : Type 0) (e : Halt) → IsFruitless (failing {T = T} (fault_of_halt e)) → ⊥
+halt_fruitless T Disk is = is
+halt_fruitless T NoMemory is = is
+halt_fruitless T (Lost v kept n) is = is
 
 pub halt_blames : (T : Type 0) (e : Halt) → IsGivenUp (failing {T = T} (fault_of_halt e)) → ⊥
 halt_blames T Disk is = is
@@ -91,11 +97,14 @@ module _ {D K : Type 0} {state : D → DiskState} {tells : K → History → Typ
       (record { core = core; store = store; disk = d; link = link }) k h
       → IsVerdict c.setup k (h ++ c.noted) v
       → Concludes c h (state d) (state d) (failing {T = T} e)
-  plain_concludes T core store d link v e shows c k h j is = record {
-    always = same_stands j d (same_started (state d));
-    shows = shows c k h is;
-    closed = tt;
-  }
+  plain_concludes T core store d link v e shows c k h j is =
+      let at : Moment D K = record { core = core; store = store; disk = d; link = link } in record {
+        always = same_stands j d (same_started (state d));
+        shows = shows c k h is;
+        kept = λ whole. keeps_plain c at k h j;
+        running = λ fruitless. runs_plain c at k h j;
+        closed = tt;
+      }
 
   -- the results were brought back
   pub sealed_concludes : (T : Type 0) (at : Moment D K) (d_new : D) (x : T) (v : Verdict)
@@ -109,7 +118,13 @@ module _ {D K : Type 0} {state : D → DiskState} {tells : K → History → Typ
       let ended : IsVerdict c.setup k (h ++ c.noted) verdict.Ended =
       subst (IsVerdict c.setup k (h ++ c.noted)) is ends in
       let closed = closes c k h j ended in
-      record { always = closed.always; shows = (k, ended); closed = closed.closed }
+      record {
+        always = closed.always;
+        shows = (k, ended);
+        kept = λ whole. keeps_sealed T at d_new x closes c k h j ended;
+        running = λ fruitless. absurd fruitless;
+        closed = closed.closed;
+      }
 
   -- they were not
   pub unsealed_concludes : (T S : Type 0) (at : Moment D K) (d_new : D) (e : Halt) (v : Verdict)
@@ -126,5 +141,7 @@ module _ {D K : Type 0} {state : D → DiskState} {tells : K → History → Typ
       record {
         always = (closes c k h j ended).always;
         shows = halt_shows S c.setup (h ++ c.noted) e (found c k h j ended);
+        kept = λ whole. absurd (whole (halt_cut e));
+        running = λ fruitless. absurd (halt_fruitless S e fruitless);
         closed = tt;
       }

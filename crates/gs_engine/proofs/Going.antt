@@ -1,14 +1,12 @@
 -- A call, from its beginning to its end.
 use Rattle.std.proofs.Common.{◌≡◌, ℕ, zero, suc, ◌∙◌, ◌==◌, Bool, true, false, append_assoc, List, [], ◌∷◌, ◌++◌, IsSome, is_some, Result, Ok, Err, refl, sym, ap, subst, arith, All}
-use Rattle.std.specs.Prelude.{map, ◌||◌}
-use Rattle.std.specs.List.{list_any}
-use Rattle.std.proofs.lemmas.List.Folds.{list_any-append}
+use Rattle.std.specs.Prelude.{map}
 use Rattle.gs_types.specs.Job.{Meaning}
 use Rattle.gs_types.specs.History.{History, noted, started, refused, finished, failed, abandoned, outs_in}
 use Rattle.gs_disk.specs.Folder.{Folder, DiskState}
 use Rattle.gs_disk.specs.Moments.{Always}
 use Rattle.gs_disk.specs.Going.{always_then}
-use Rattle.gs_entries.specs.Order.{stage_of, has_done, dones, done_by}
+use Rattle.gs_entries.specs.Order.{stage_of, has_done}
 use Rattle.gs_entries.specs.declared.entry.Entry.{Entry}
 use Rattle.gs_entries.specs.declared.entry.Entry.TheVariants as made
 use Rattle.gs_entries.specs.declared.entry.Stage.{Stage}
@@ -35,26 +33,10 @@ use Rattle.gs_engine.specs.Starting.{HasCosts}
 use Rattle.gs_engine.specs.declared.running.RunFault.{RunFault}
 use Rattle.gs_engine.specs.declared.running.RunFault.TheVariants as fault
 use Rattle.gs_engine.proofs.BeginningNotes.{AreEvents, events_of, noted_go_on}
-use Rattle.gs_engine.proofs.Concluding.{failing, halt_shows, halt_sound}
+use Rattle.gs_engine.proofs.Concluding.{failing, halt_cut, halt_fruitless, halt_shows, halt_sound}
+use Rattle.gs_engine.proofs.Keeping.{done_among}
 
 -- ---- what is recorded as the call begins
-
-dones_append : (es more : List Entry) → dones (es ++ more) ≡ dones es ++ dones more
-dones_append [] more = refl
-dones_append (e ∷ es) more = ap (λ (l : List ℕ). done_by e ++ l) (dones_append es more)
-    ∙ sym (append_assoc (done_by e) (dones es) (dones more))
-
--- what is done stays so as entries are added
-done_stays : (es more : List Entry) (n : ℕ) → has_done es n ≡ true
-    → has_done (es ++ more) n ≡ true
-done_stays es more n is = ap (list_any (λ m. n == m)) (dones_append es more)
-    ∙ list_any-append (λ m. n == m) (dones es) (dones more)
-    ∙ ap (λ (b : Bool). b || list_any (λ m. n == m) (dones more)) is
-
-pub done_among : (stood es : List Entry) (n : ℕ) → IsPrefixOf stood es → has_done stood n ≡ true
-    → has_done es n ≡ true
-done_among stood es n part is =
-    subst (λ (l : List Entry). has_done l n ≡ true) part.1 (done_stays stood part.0 n is)
 
 none_right : (o : Origin) (f : Folder) → All (IsRight o f) []
 none_right o f k d lt = absurd (omega arith)
@@ -125,6 +107,8 @@ begin_went {K = K} {state = state} {tells = tells} T parts es d d_new link link_
         recorded = λ n is.
             events.1.noted n (done_among call.origin.stood es n rights.1 is);
         shows = halt_shows T call.setup events.0 e found;
+        kept = λ whole. absurd (whole (halt_cut e));
+        running = λ is. absurd (halt_fruitless T e is);
         sound = halt_sound T e;
         closed = tt;
       },
@@ -162,6 +146,8 @@ module _ {D K : Type 0} {state : D → DiskState} {tells : K → History → Typ
           recorded = λ n is. start.1.noted n
               (done_among call.origin.stood two.store.entries n start.1.running.are.goes_on is);
           shows = halt_shows T call.setup (s.history ++ start.0) e a.1.1;
+          kept = λ whole. absurd (whole (halt_cut e));
+          running = λ is. absurd (halt_fruitless T e is);
           sound = halt_sound T e;
           closed = tt;
         },
@@ -202,6 +188,8 @@ module _ {D K : Type 0} {state : D → DiskState} {tells : K → History → Typ
           recorded = λ n is. start.1.noted n
               (done_among call.origin.stood two.store.entries n start.1.running.are.goes_on is);
           shows = ends.shows;
+          kept = ends.kept;
+          running = ends.running;
           sound = λ index is.
               let m : Shows call.setup (at.history ++ start.0) (failing {T = T} (fault.BadRecord index)) =
               subst (Shows call.setup (at.history ++ start.0)) is ends.shows in

@@ -23,6 +23,7 @@ pub mod Misfits
 pub mod FullTalk
 pub mod FullCalls
 pub mod Rounds
+pub mod Keeping
 pub mod Concluding
 pub mod Going
 pub mod Abandoning

@@ -60,3 +60,8 @@ returns-in-Err-clause-refused g c = λ told.
     subst (LacksLengthIn (g.D.Disk.state (disk_of c.seal.new.site)).folder) (sym c.stopped.ensures)
     (halt_lacks (g.D.Disk.state (disk_of c.seal.new.site)).folder c.in-Err.halt
     (c.in-Err.ensures.refused told))
+
+pub returns-in-Ok-clause-concludes : goal.returns-in-Ok-clause-concludes
+returns-in-Ok-clause-concludes g c = λ told. sealed_concludes StoreState
+    (moment_of c.args.core.now c.args.store c.args.site.now) (disk_of c.seal.new.site)
+    c.in-Ok.store c.args.verdict c.in-Ended.is (c.in-Ok.ensures.closes told)
