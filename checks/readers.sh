@@ -350,7 +350,7 @@ kit='/* the kit\n */ interface KIT { // four operations\n\tvoid join(in File a, 
 run_each() {
     want_status=$1; told=$2; wanted=$3; shift 3
     for text; do
-        rm -f C; idl "$kit"; printf "$text" > p.c
+        rm -rf C .gs.*; idl "$kit"; printf "$text" > p.c
         case_of "run: $told $(short "$text")" "$want_status" "$told" run k.idl p.c w.txt
         [ "$(cat C 2> .err)" = "$wanted" ] || { echo "FAILED C is '$(cat C)'"; failed=1; }
     done
@@ -384,12 +384,12 @@ bad_run 'p.c:2: Unknown' "main() { GS_On(); $call\njoint(\"A\"); GS_Off(0); }" '
 bad_run 'p.c:2: WrongCount' "main() { GS_On(); ;\njoin(\"A\"); GS_Off(0); }"
 bad_run 'p.c:0: TooLong' "main() { GS_On(); $call GS_Off(0); } $(wide 65536)"
 printf 'w1 2 sh\n' > w.txt
-bad_run 'w.txt:0: NotYet' "main() { GS_On(); $call GS_Off(0); }"
+bad_run 'w.txt:1: BadLine' "main() { GS_On(); $call GS_Off(0); }"
 kit='interface KIT {\nvoid join(inout int n); };'
 bad_run 'k.idl:2: BadCombination' "@"
+case_of "run: a list that is absent is named before the texts are judged" 3 "gs: no text: x.txt" run k.idl p.c x.txt
 kit=$(wide 65537)
 bad_run 'k.idl:0: TooLong' "@"
-case_of "run: a list that is absent is named before the texts are judged" 3 "gs: no text: x.txt" run k.idl p.c x.txt
 
 [ $failed -eq 0 ] && echo "all ok"
 exit $failed

@@ -79,7 +79,17 @@ if [ $? -eq 0 ] && [ "$(cat .out)" = "12 bytes
 same loops A "<0>0<1>1<2>2"
 "$gs" $run > /dev/full 2> .err
 if [ $? -eq 11 ] && [ "$(cat .err)" = "gs: sink fault" ]; then echo "ok a run whose output fails"; else echo "FAILED a run whose output fails: $(cat .err)"; failed=1; fi
-same "output fails" A "<0>0<1>1<2>2<0>0<1>1<2>2"
+same "output fails" A "<0>0<1>1<2>2"
+
+# the record: a run that is over prints its text again and starts nothing; other texts; tries
+rm add count; "$gs" $run > .out 2> .err
+if [ $? -eq 0 ] && [ "$(head -1 .out)" = "12 bytes" ] && [ ! -s .err ]; then echo "ok a run that is over"; else echo "FAILED a run that is over: $(cat .out .err)"; failed=1; fi
+printf ' ' >> p.c; case_of "a run of another text" 5 "gs: other run: program text$lf" $run
+case_of "a removal of a run that is over" 0 "" clean; gone over .gs.log; same over A "<0>0<1>1<2>2"
+fresh; printf 'mkdir -p n; echo >> n/l; [ $(wc -l < n/l) -ge 3 ] || exit 1; cat "$1" "$2" > "$3"\n' > join
+case_of "a program that works at its third start" 0 "" $run; same third C xy
+fresh; printf 'exit 1\n' > join; case_of "a worker that fails five times" 9 "gs: workers lost: 1$lf" $run --tries 100; gone five C
+printf 'cat "$1" "$2" > "$3"\n' > join; case_of "a run that goes on" 0 "" $run; same on C xy
 
 # the command check: one case of each status
 fresh; "$gs" check k.idl p.c > .out 2> .err

@@ -8,13 +8,19 @@ folder=$(mktemp -d)
 trap 'rm -rf "$folder"' EXIT
 cp "$here"/* "$folder"
 cd "$folder"
+[ "$("$program" run fail.idl fail.c workers.txt --tries 3)" = "done" ]
+[ "$(cat result)" = "result of job 7" ]
+[ "$(wc -l < starts/list)" -eq 3 ]
+"$program" clean
+rm -r starts job
 echo old > result
 for start in 1 2; do
-    if said=$("$program" run fail.idl fail.c workers.txt 2>&1); then exit 1; fi
+    if said=$("$program" run fail.idl fail.c workers.txt --tries 1 2>&1); then exit 1; fi
     [ "$said" = "gs: task lost: 2" ]
     [ "$(cat result)" = old ]
     [ ! -e job ]
+    [ "$("$program" report | sed -n 3p)" = "done 1 2:file:6" ]
 done
-[ "$("$program" run fail.idl fail.c workers.txt)" = "done" ]
+[ "$("$program" run fail.idl fail.c workers.txt --tries 1)" = "done" ]
 [ "$(cat result)" = "result of job 7" ]
 echo "ok fail"

@@ -9,6 +9,7 @@ trap 'rm -rf "$folder"' EXIT
 cp "$here"/* "$folder"
 cd "$folder"
 [ "$("$program" run numbers.idl numbers.c workers.txt)" = "the square of 387 is below the target" ]
+"$program" clean
 echo 144 > target
 [ "$("$program" run numbers.idl numbers.c workers.txt)" = "the square of 12 is equal to the target" ]
 echo "ok numbers"

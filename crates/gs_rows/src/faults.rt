@@ -63,7 +63,7 @@ fn each_failing_turn_is_the_task_that_is_lost(rt: HostRuntime) -> Result<(), Fai
         b"gs: task lost: 2\n",
         b"gs: task lost: 3\n",
     ];
-    let words = ["run", "k.idl", "p.c", "w.txt"];
+    let words = ["run", "k.idl", "p.c", "w.txt", "--tries", "1"];
     for (at, line) in lines.iter().enumerate() {
         let mut script = Vec::new(alloc);
         for turn in 0..3 {

@@ -1,5 +1,5 @@
 // Near misses of the three texts, and long names.
-use crate::desk::{IDL, LIST, PROGRAM, name, run_files};
+use crate::desk::{IDL, LIST, PROGRAM, RUN, kit_disk, name, run_by, run_files};
 use std::test::Fail;
 
 fn replaced(
@@ -35,8 +35,8 @@ fn a_near_miss_of_a_text_names_it(rt: HostRuntime) -> Result<(), Fail> {
         (1, 0, 4, b"mein", b"gs: bad text: p.c:1: Unexpected\n"),
         (1, 26, 30, b"/*\n*/move", b"gs: bad text: p.c:4: Unknown\n"),
         (1, 62, 63, b"", b"gs: bad text: p.c:6: Unexpected\n"),
-        (2, 3, 4, b"0", b"gs: bad text: w.txt:0: NotYet\n"),
-        (2, 3, 4, b"10", b"gs: bad text: w.txt:0: NotYet\n"),
+        (2, 3, 4, b"0", b"gs: bad text: w.txt:1: BadSlots\n"),
+        (2, 0, 12, b"\n# w1\n", b"gs: bad text: w.txt:0: Empty\n"),
     ];
     for (which, from, to, by, line) in cases {
         let whole = match which {
@@ -60,6 +60,21 @@ fn a_near_miss_of_a_text_names_it(rt: HostRuntime) -> Result<(), Fail> {
         assert_eq!(rt; made.err.bytes(), line);
         assert_eq!(rt; made.disk.get(&name(&rt, b"C")), None);
     }
+    Ok(())
+}
+
+#[test]
+fn an_operation_that_is_called_has_a_worker(rt: HostRuntime) -> Result<(), Fail> {
+    let alloc = rt.alloc();
+    let program = b"main() { int n; GS_On(); count(\"A\", n); GS_Off(0); }";
+    let disk = kit_disk(&rt, alloc, program, b"w1 1 ./kit join grow\n")?;
+    let made = run_by(alloc, &RUN, disk, b"")?;
+    assert_eq!(rt; made.status, 4);
+    assert_eq!(rt;
+        made.err.bytes(),
+        b"gs: bad text: p.c:1: NoWorker\n".as_slice()
+    );
+    assert_eq!(rt; made.disk.get(&name(&rt, b".gs.on")), None);
     Ok(())
 }
 

@@ -2,6 +2,10 @@
 #![tactic(auto)]
 
 #[cfg(test)]
+mod again;
+#[cfg(test)]
+mod course;
+#[cfg(test)]
 mod desk;
 #[cfg(test)]
 mod dialogue;

@@ -1,6 +1,5 @@
 // The rows of worked examples.
-use crate::desk::{IDL, LIST, PROGRAM, disk_of, is_one_task, name, reads, run, run_files};
-use gs_site::{Past, Turn};
+use crate::desk::{IDL, LIST, PROGRAM, RUN, disk_of, name, reads, run, run_by, run_files, told};
 use std::test::Fail;
 
 #[test]
@@ -17,7 +16,7 @@ fn two_files_are_joined_into_a_third(rt: HostRuntime) -> Result<(), Fail> {
     assert_eq!(rt; made.status, 0);
     assert!(rt; reads(&rt, &made.disk, b"C", b"ab"));
     assert!(rt; reads(&rt, &made.disk, b"A", b"a"));
-    assert!(rt; is_one_task(made.link.past()));
+    assert_eq!(rt; told(alloc, made.link.past())?.as_str(), "+1@0 -1 ");
     assert!(rt; made.err.bytes().is_empty());
     assert!(rt; made.out.bytes().is_empty());
     Ok(())
@@ -55,22 +54,12 @@ fn a_lost_task_leaves_the_files_as_they_were(rt: HostRuntime) -> Result<(), Fail
         (b"B", b"b"),
     ];
     let disk = disk_of(&rt, alloc, &files)?;
-    let mut script = Vec::new(alloc);
-    script.push(Turn {
-        pick: 0,
-        well: false,
-    })?;
-    let words = ["run", "k.idl", "p.c", "w.txt"];
-    let made = run(alloc, &words, disk, script, Vec::new(alloc))?;
+    let made = run_by(alloc, &RUN, disk, b"!!!")?;
     assert_eq!(rt; made.status, 9);
     assert_eq!(rt; made.err.bytes(), b"gs: task lost: 1\n".as_slice());
     assert_eq!(rt; made.disk.get(&name(&rt, b"C")), None);
-    assert!(rt;
-        matches!(
-            made.link.past(),
-            [Past::Started { n: 1, worker: 0 }, Past::Failed { n: 1 }]
-        )
-    );
+    let history = "+1@0 !1 +1@0 !1 +1@0 !1 ";
+    assert_eq!(rt; told(alloc, made.link.past())?.as_str(), history);
     Ok(())
 }
 

@@ -5,17 +5,17 @@ use Rattle.gs_types.specs.Counts.{Rises}
 use Rattle.gs_disk.specs.Folder.{Folder, DiskState, Same}
 use Rattle.gs_disk.specs.Moments.{Passes}
 use Rattle.gs_idl.specs.Interface.{Interface}
-use Rattle.gs_idl.specs.declared.token.IdlKind.TheVariants as idl_kind
 use Rattle.gs_tree.specs.Program.{Program}
-use Rattle.gs_parse.specs.declared.fault.ParseKind.TheVariants as parse_kind
 use Rattle.gs_check.specs.Faults.{fault_of}
-use Rattle.gs_run.specs.Checking.{printed_both, FirstMissing, CheckRefused, long_idl, long_program, wrong, HoldsBoth, RanCheck}
+use Rattle.gs_check.specs.declared.checked.Checked.{Checked}
+use Rattle.gs_entries.specs.declared.entry.Texts.{Texts}
+use Rattle.gs_run.specs.Checking.{printed_both, CheckRefused, long, wrong, HoldsBoth, RanCheck}
 use Rattle.gs_run.specs.Judging.{BothOf, JudgedOnly}
-use Rattle.gs_run.specs.Showing.{ShortEnds, ShortTold, ShowEnds, ShowWrote, stop_of, shown_as}
+use Rattle.gs_run.specs.Showing.{ShowEnds, ShowWrote, stop_of, shown_as}
+use Rattle.gs_run.specs.Sources.{HasSources, FirstMissing, SourcesTold, SourcesEnd}
 use Rattle.gs_run.specs.Stop.{status_of}
 use Rattle.gs_run.specs.Texts.{IsWithin, IsBeyond, HasBoth}
 use Rattle.gs_run.specs.declared.kinds.TextKind.{TextKind}
-use Rattle.gs_run.specs.declared.kinds.TextKind.TheVariants as kind
 use Rattle.gs_run.specs.declared.refusal.Refusal.{Refusal}
 use Rattle.gs_run.specs.declared.refusal.Refusal.TheVariants.{NoText, BadText, Disk, Memory}
 use Rattle.gs_run.specs.declared.showing.Unshown.{Unshown}
@@ -27,104 +27,60 @@ use Rattle.gs_run.proofs.Verdicts.{not_wrong}
 stays : (old new : Folder) → new ≡ old → (x : List ℕ) → new x ≡ old x
 stays old new same x = ap (λ (f : Folder). f x) same
 
--- where a text that is too long is refused
-refused_at : (folder : Folder) (i p name n : List ℕ) (line : ℕ) (k long : TextKind) → n ≡ name
-    → line ≡ 0 → k ≡ long → CheckRefused folder i p name 0 long → CheckRefused folder i p n line k
-refused_at folder i p name n line k long is_name is_line is_kind r =
-    subst (λ (x : List ℕ). CheckRefused folder i p x line k) (sym is_name) (subst (λ (x : ℕ).
-    CheckRefused folder i p name x k) (sym is_line) (subst (λ (x : TextKind).
-    CheckRefused folder i p name 0 x) (sym is_kind) r))
-
--- the IDL wasn't read
-pub no_idl : (told wrote : Type 0) (old new : DiskState) (o : ℕ) (w : List ℕ) (i p : List ℕ)
-    (stop : Refusal) → ShortEnds old.faults new.faults (Err stop)
-    → (told → ShortTold (old.folder i) i (kind.Idl idl_kind.TooLong) (Err stop))
+-- the IDL and the program weren't read
+pub no_sources : (told wrote : Type 0) (old new : DiskState) (o : ℕ) (w : List ℕ) (i p : List ℕ)
+    (stop : Refusal) → SourcesEnd {T = Texts} old.faults new.faults (Err stop)
+    → (told → SourcesTold old.folder i p (Err stop))
     → (told → new.folder ≡ old.folder) → (told → Passes Same old new)
     → RanCheck told wrote old new o o w w i p (Err (stop_of stop))
-no_idl told wrote old new o w i p (NoText n) ends is same images = record {
+no_sources told wrote old new o w i p (NoText n) ends is same images = record {
   cause = tt;
-  judged = λ t. inl (is t);
+  judged = is;
   same = λ t. stays old.folder new.folder (same t);
   images = images;
   written = λ h. refl;
 }
-no_idl told wrote old new o w i p (BadText n line k) ends is same images = record {
+no_sources told wrote old new o w i p (BadText n line k) ends is same images = record {
   cause = tt;
-  judged = λ t. let h = is t in refused_at old.folder i p i n line k
-      (kind.Idl idl_kind.TooLong) h.0 h.1 h.2 (long_idl h.3);
+  judged = λ t. long n line k (is t);
   same = λ t. stays old.folder new.folder (same t);
   images = images;
   written = λ h. refl;
 }
-no_idl told wrote old new o w i p Disk ends is same images = record {
+no_sources told wrote old new o w i p Disk ends is same images = record {
   cause = ends;
-  judged = λ t.
-      tt;
+  judged = λ t. tt;
   same = λ t. stays old.folder new.folder (same t);
   images = images;
   written = λ h. refl;
 }
-no_idl told wrote old new o w i p Memory ends is same images = record {
+no_sources told wrote old new o w i p Memory ends is same images = record {
   cause = tt;
-  judged = λ t.
-      tt;
+  judged = λ t. tt;
   same = λ t. stays old.folder new.folder (same t);
   images = images;
   written = λ h. refl;
 }
 
-more_rises : (old mid new : ℕ) → old ≤ mid → Rises mid new → Rises old new
-more_rises old mid new le r = omega arith
+-- a folder's sources are within the limit, and what is said of them is said of its files
+pub within_idl : (folder : Folder) (i p : List ℕ) (t : Texts) → HasSources folder i p t
+    → IsWithin (folder i)
+within_idl folder i p t s = (t.idl, s.idl_there, s.idl_short)
 
-both_same : (old mid new : Folder) → mid ≡ old → new ≡ mid → (x : List ℕ) → new x ≡ old x
-both_same old mid new a b x = ap (λ (f : Folder). f x) (b ∙ a)
+pub within_program : (folder : Folder) (i p : List ℕ) (t : Texts) → HasSources folder i p t
+    → IsWithin (folder p)
+within_program folder i p t s = (t.program, s.program_there, s.program_short)
 
--- the program wasn't read
-pub no_program : (told wrote : Type 0) (old mid new : DiskState) (o : ℕ) (w : List ℕ) (i p : List ℕ)
-    (stop : Refusal) → old.faults ≤ mid.faults → ShortEnds mid.faults new.faults (Err stop)
-    → (told → IsWithin (old.folder i))
-    → (told → ShortTold (mid.folder p) p (kind.Program parse_kind.TooLong) (Err stop))
-    → (told → mid.folder ≡ old.folder) → (told → new.folder ≡ mid.folder)
-    → (told → Passes Same old new) → RanCheck told wrote old new o o w w i p
-    (Err (stop_of stop))
-no_program told wrote old mid new o w i p (NoText n) le ends within is same then images = record {
-  cause = tt;
-  judged = λ t. let h = is t in inr (h.0, within t, ap (λ (f : Folder). f p) (sym (same t)) ∙ h.1);
-  same = λ t. both_same old.folder mid.folder new.folder (same t) (then t);
-  images = images;
-  written = λ h. refl;
-}
-no_program told wrote old mid new o w i p (BadText n line k) le ends within is same then images =
-    record {
-      cause = tt;
-      judged = λ t. let h = is t in refused_at old.folder i p p n line k
-          (kind.Program parse_kind.TooLong) h.0 h.1 h.2 (long_program (within t) (subst (λ (f : Folder).
-          IsBeyond (f p)) (same t) h.3));
-      same = λ t. both_same old.folder mid.folder new.folder (same t) (then t);
-      images = images;
-      written = λ h. refl;
-    }
-no_program told wrote old mid new o w i p Disk le ends within is same then images =
-    record {
-      cause = more_rises old.faults mid.faults new.faults le ends;
-      judged = λ t. tt;
-      same = λ t. both_same old.folder mid.folder new.folder (same t) (then t);
-      images = images;
-      written = λ h. refl;
-    }
-no_program told wrote old mid new o w i p Memory le ends within is same then images =
-    record {
-      cause = tt;
-      judged = λ t. tt;
-      same = λ t. both_same old.folder mid.folder new.folder
-          (same t) (then t);
-      images = images;
-      written = λ h. refl;
-    }
+pub both_of : (folder : Folder) (i p : List ℕ) (t : Texts) (answer : Result Checked Refusal)
+    → HasSources folder i p t → BothOf (Some t.idl) (Some t.program) i p answer
+    → BothOf (folder i) (folder p) i p answer
+both_of folder i p t answer s is = subst (λ (f : Option (List ℕ)). BothOf f (folder p) i p answer)
+    (sym s.idl_there) (subst (λ (f : Option (List ℕ)). BothOf (Some t.idl) f i p answer)
+    (sym s.program_there) is)
 
 -- a text went wrong
 pub went_wrong : (told wrote : Type 0) (old new : DiskState) (o : ℕ) (w : List ℕ) (i p : List ℕ)
-    (stop : Refusal) → JudgedOnly {T = Rattle.gs_check.specs.declared.checked.Checked.Checked}
+    (stop : Refusal) → JudgedOnly {T = Checked}
     (Err stop) → (told → IsWithin (old.folder i)) → (told → IsWithin (old.folder p))
     → (told → BothOf (old.folder i) (old.folder p) i p (Err stop)) → (told → (x : List ℕ)
     → new.folder x ≡ old.folder x) → (told → Passes Same old new)
@@ -209,10 +165,10 @@ holds_present folder i p name h (inr a) = some_none (folder p) h.2.program.text 
 
 holds_right : (folder : Folder) (i p name : List ℕ) (line : ℕ) (k : TextKind) → HoldsBoth folder i p
     → CheckRefused folder i p name line k → ⊥
-holds_right folder i p name line k h (long_idl b) =
-    no_beyond (folder i) h.2.interface.text h.2.interface.there h.2.interface.says.short b
-holds_right folder i p name line k h (long_program a b) =
-    no_beyond (folder p) h.2.program.text h.2.program.there h.2.program.says.short b
+holds_right folder i p name line k h (long name1 line1 k1 (inl b)) =
+    no_beyond (folder i) h.2.interface.text h.2.interface.there h.2.interface.says.short b.3
+holds_right folder i p name line k h (long name1 line1 k1 (inr b)) =
+    no_beyond (folder p) h.2.program.text h.2.program.there h.2.program.says.short b.4
 holds_right folder i p name line k h (wrong name1 line1 k1 a b is) =
     not_wrong (folder i) (folder p) i p name line k h.0 h.1 h.2 is
 
@@ -230,7 +186,9 @@ checks_through told wrote old new o1 o2 w1 w2 i p (stop.Fault line k) ran t h di
     absurd ran.cause
 checks_through told wrote old new o1 o2 w1 w2 i p (stop.FuelOut fuel) ran t h disk out =
     absurd ran.cause
-checks_through told wrote old new o1 o2 w1 w2 i p (stop.Lost n) ran t h disk out = absurd ran.cause
+checks_through told wrote old new o1 o2 w1 w2 i p (stop.OtherRun what) ran t h disk out = absurd ran.cause
+checks_through told wrote old new o1 o2 w1 w2 i p (stop.TaskLost n) ran t h disk out = absurd ran.cause
+checks_through told wrote old new o1 o2 w1 w2 i p (stop.WorkersLost n) ran t h disk out = absurd ran.cause
 checks_through told wrote old new o1 o2 w1 w2 i p (stop.BadStore why) ran t h disk out =
     absurd ran.cause
 checks_through told wrote old new o1 o2 w1 w2 i p stop.Gated ran t h disk out =
@@ -257,3 +215,10 @@ pub checks_so : (told wrote : Type 0) (old new : DiskState) (o1 o2 : ℕ) (w1 w2
 checks_so told wrote old new o1 o2 w1 w2 i p (Ok done) ran t h disk out = inl refl
 checks_so told wrote old new o1 o2 w1 w2 i p (Err s) ran t h disk out =
     checks_through told wrote old new o1 o2 w1 w2 i p s ran t h disk out
+
+-- what is said of these bytes is said of the texts that they are
+pub says_as : (a b c d i p : List ℕ) (r : Result Checked Refusal) → a ≡ c → b ≡ d
+    → BothOf (Some a) (Some b) i p r → BothOf (Some c) (Some d) i p r
+says_as a b c d i p r idl program says =
+    subst (λ (x : List ℕ). BothOf (Some x) (Some d) i p r) idl
+    (subst (λ (x : List ℕ). BothOf (Some a) (Some x) i p r) program says)

@@ -6,6 +6,7 @@ use Rattle.gs_verbs.specs.Reporting.{HasStore}
 use Rattle.gs_verbs.specs.Cleaning.{HasGated}
 use Rattle.gs_verbs.specs.Planning.{HasPlan}
 use Rattle.gs_words.specs.Usage.{IsReading}
+use Rattle.gs_words.proofs.Limits.{tries_within}
 use Rattle.gs_words.specs.declared.command.Command.TheVariants.{Run, Check, Report, Clean, SelfRun, Plan}
 use Rattle.gs_verbs.proofs.Through.{report_through, clean_through, plan_through}
 use Rattle.gs_run.specs.Asked.{Wish, HasSlots}
@@ -43,7 +44,8 @@ plan_so told wrote d e o p v w slots durations answer r t has disk out =
 -- ---- what words ask for
 
 pub has_slots : (ws : List (List ℕ)) (wish : Wish) → IsReading ws wish → HasSlots wish
-has_slots ws (Ok (Run idl program workers settings)) is = tt
+has_slots ws (Ok (Run idl program workers settings)) is =
+    tries_within ws idl program workers settings is
 has_slots ws (Ok (Check idl program)) is = tt
 has_slots ws (Ok Report) is = tt
 has_slots ws (Ok Clean) is = tt

@@ -1,5 +1,6 @@
 -- What the words of the command line ask for.
 use Rattle.std.specs.Prelude.{◌≤◌, Result, Ok, Err}
+use Rattle.gs_types.specs.declared.limits.TheConstants.{TRIES_LIMIT}
 use Rattle.gs_plan.specs.declared.planning.TheConstants.{PLAN_SLOTS}
 use Rattle.gs_words.specs.declared.command.Command.{Command}
 use Rattle.gs_words.specs.declared.command.Command.TheVariants.{Run, Check, Report, Clean, SelfRun, Plan}
@@ -29,9 +30,10 @@ IsNothing (Ok (SelfRun seed n)) = Unit {0}
 IsNothing (Ok (Plan slots durations)) = ⊥
 IsNothing (Err usage) = Unit {0}
 
--- a plan is for one slot at least, and at most for so many
+-- a task is tried once at least, and a plan is for one slot at least; and both have a limit
 abbrev pub HasSlots : Wish → Type 0
-HasSlots (Ok (Run idl program workers settings)) = Unit {0}
+HasSlots (Ok (Run idl program workers settings)) =
+    (1 ≤ settings.tries) × (settings.tries ≤ TRIES_LIMIT)
 HasSlots (Ok (Check idl program)) = Unit {0}
 HasSlots (Ok Report) = Unit {0}
 HasSlots (Ok Clean) = Unit {0}

@@ -12,11 +12,12 @@ use Rattle.gs_parse.specs.declared.fault.ParseKind.TheVariants as parse_kind
 use Rattle.gs_check.specs.Faults.{fault_of}
 use Rattle.gs_check.specs.Passing.{program_in, interface_in}
 use Rattle.gs_check.specs.declared.checked.Checked.{Checked}
+use Rattle.gs_run.specs.Sources.{FirstMissing, FirstLong}
 use Rattle.gs_run.specs.Texts.{IsWithin, IsBeyond, HasBoth, IsWrong}
 use Rattle.gs_run.specs.declared.kinds.TextKind.{TextKind}
 use Rattle.gs_run.specs.declared.kinds.TextKind.TheVariants as kind
 use Rattle.gs_run.specs.declared.stop.Stop.{Stop}
-use Rattle.gs_run.specs.declared.stop.Stop.TheVariants.{Usage, NoText, BadText, Fault, FuelOut, Lost, BadStore, Gated, NoRun, Disk, Sink, Memory}
+use Rattle.gs_run.specs.declared.stop.Stop.TheVariants.{Usage, NoText, BadText, OtherRun, BadStore, Fault, FuelOut, TaskLost, WorkersLost, Gated, NoRun, Disk, Sink, Memory}
 
 -- the printed interface, and then the printed program
 abbrev pub printed_both : Interface → Program → List ℕ
@@ -30,20 +31,12 @@ both_printed c = printed_both (interface_in c) (program_in c)
 abbrev pub HasPassed : Checked → Type 0
 HasPassed c = is_some (fault_of (interface_in c).ops (program_in c)) ≡ false
 
--- the first of the two files that is absent when its turn comes: the program is looked for where
--- the IDL is within the limit
-abbrev pub FirstMissing : Folder → (idl program name : List ℕ) → Type 0
-FirstMissing folder idl program name = ((name ≡ idl) × (folder idl ≡ None))
-    ⊎ ((name ≡ program) × IsWithin (folder idl) × (folder program ≡ None))
-
 -- The first text that is refused, with line and kind: one that is too long as it is read, the IDL
 -- first; else the first fault of the two.
 pub data CheckRefused (folder : Folder) (idl program : List ℕ) : (name : List ℕ) → (line : ℕ)
     → TextKind → Type 0 where
-  long_idl : IsBeyond (folder idl) → CheckRefused folder idl program idl 0
-      (kind.Idl idl_kind.TooLong)
-  long_program : IsWithin (folder idl) → IsBeyond (folder program)
-      → CheckRefused folder idl program program 0 (kind.Program parse_kind.TooLong)
+  long : (name : List ℕ) (line : ℕ) (k : TextKind) → FirstLong folder idl program name line k
+      → CheckRefused folder idl program name line k
   wrong : (name : List ℕ) (line : ℕ) (k : TextKind) → IsWithin (folder idl)
       → IsWithin (folder program) → IsWrong (folder idl) (folder program) idl program name line k →
       CheckRefused folder idl program name line k
@@ -61,7 +54,9 @@ CheckCause disk_old disk_new out_old out_new (Err (NoText name)) = Unit {0}
 CheckCause disk_old disk_new out_old out_new (Err (BadText name line k)) = Unit {0}
 CheckCause disk_old disk_new out_old out_new (Err (Fault line k)) = ⊥
 CheckCause disk_old disk_new out_old out_new (Err (FuelOut fuel)) = ⊥
-CheckCause disk_old disk_new out_old out_new (Err (Lost n)) = ⊥
+CheckCause disk_old disk_new out_old out_new (Err (OtherRun what)) = ⊥
+CheckCause disk_old disk_new out_old out_new (Err (TaskLost n)) = ⊥
+CheckCause disk_old disk_new out_old out_new (Err (WorkersLost n)) = ⊥
 CheckCause disk_old disk_new out_old out_new (Err (BadStore why)) = ⊥
 CheckCause disk_old disk_new out_old out_new (Err Gated) = ⊥
 CheckCause disk_old disk_new out_old out_new (Err NoRun) = ⊥
@@ -78,7 +73,9 @@ CheckJudged folder idl program (Err (BadText name line k)) =
     CheckRefused folder idl program name line k
 CheckJudged folder idl program (Err (Fault line k)) = ⊥
 CheckJudged folder idl program (Err (FuelOut fuel)) = ⊥
-CheckJudged folder idl program (Err (Lost n)) = ⊥
+CheckJudged folder idl program (Err (OtherRun what)) = ⊥
+CheckJudged folder idl program (Err (TaskLost n)) = ⊥
+CheckJudged folder idl program (Err (WorkersLost n)) = ⊥
 CheckJudged folder idl program (Err (BadStore why)) = ⊥
 CheckJudged folder idl program (Err Gated) = ⊥
 CheckJudged folder idl program (Err NoRun) = ⊥
@@ -98,7 +95,9 @@ CheckWrote told folder idl program old new (Err (NoText name)) = new ≡ old
 CheckWrote told folder idl program old new (Err (BadText name line k)) = new ≡ old
 CheckWrote told folder idl program old new (Err (Fault line k)) = new ≡ old
 CheckWrote told folder idl program old new (Err (FuelOut fuel)) = new ≡ old
-CheckWrote told folder idl program old new (Err (Lost n)) = new ≡ old
+CheckWrote told folder idl program old new (Err (OtherRun what)) = new ≡ old
+CheckWrote told folder idl program old new (Err (TaskLost n)) = new ≡ old
+CheckWrote told folder idl program old new (Err (WorkersLost n)) = new ≡ old
 CheckWrote told folder idl program old new (Err (BadStore why)) = new ≡ old
 CheckWrote told folder idl program old new (Err Gated) = new ≡ old
 CheckWrote told folder idl program old new (Err NoRun) = new ≡ old

@@ -17,7 +17,7 @@ abbrev pub Did : (told wrote : Type 0) → (old new : DiskState) → Meaning
     → (tells_old tells_new : History → Type 0) → (link_old link_new out_old out_new : ℕ)
     → (written_old written_new : List ℕ) → Wish → Result Unit Stop → Type 0
 Did told wrote d e law s t k l o p v w (Ok (Run idl program workers settings)) answer =
-    Ran settings.fuel told wrote d e law s t k l o p v w idl program workers answer
+    Ran settings told wrote d e law s t k l o p v w idl program workers answer
 Did told wrote d e law s t k l o p v w (Ok (Check idl program)) answer =
     RanCheck told wrote d e o p v w idl program answer
 Did told wrote d e law s t k l o p v w (Ok Report) answer =

@@ -4,6 +4,8 @@ use Rattle.gs_idl.specs.declared.token.IdlKind.{IdlKind}
 use Rattle.gs_idl.specs.declared.token.IdlKind.TheVariants as idl
 use Rattle.gs_parse.specs.declared.fault.ParseKind.{ParseKind}
 use Rattle.gs_parse.specs.declared.fault.ParseKind.TheVariants as parse
+use Rattle.gs_broker.specs.declared.kind.WorkersKind.{WorkersKind}
+use Rattle.gs_broker.specs.declared.kind.WorkersKind.TheVariants as workers
 use Rattle.gs_check.specs.declared.kind.CheckKind.{CheckKind}
 use Rattle.gs_check.specs.declared.kind.CheckKind.TheVariants as check
 use Rattle.gs_plan.specs.declared.kind.DurKind.{DurKind}
@@ -11,7 +13,7 @@ use Rattle.gs_plan.specs.declared.kind.DurKind.TheVariants as durations
 use Rattle.gs_types.specs.declared.settings.FaultKind.{FaultKind}
 use Rattle.gs_types.specs.declared.settings.FaultKind.TheVariants as fault
 use Rattle.gs_run.specs.declared.kinds.TextKind.{TextKind}
-use Rattle.gs_run.specs.declared.kinds.TextKind.TheVariants.{Idl, Program, Check, Durations, NotYet}
+use Rattle.gs_run.specs.declared.kinds.TextKind.TheVariants.{Idl, Program, Check, Durations, Workers, NoWorker}
 
 abbrev pub idl_kind_text : IdlKind → List ℕ
 idl_kind_text idl.TooLong = codes "TooLong"
@@ -54,12 +56,24 @@ duration_kind_text durations.UnknownOp = codes "UnknownOp"
 duration_kind_text durations.BadNumber = codes "BadNumber"
 duration_kind_text durations.Twice = codes "Twice"
 
+abbrev pub workers_kind_text : WorkersKind → List ℕ
+workers_kind_text workers.TooLong = codes "TooLong"
+workers_kind_text workers.BadByte = codes "BadByte"
+workers_kind_text workers.BadLine = codes "BadLine"
+workers_kind_text workers.BadName = codes "BadName"
+workers_kind_text workers.BadSlots = codes "BadSlots"
+workers_kind_text workers.UnknownOp = codes "UnknownOp"
+workers_kind_text workers.Twice = codes "Twice"
+workers_kind_text workers.TooMany = codes "TooMany"
+workers_kind_text workers.Empty = codes "Empty"
+
 abbrev pub kind_text : TextKind → List ℕ
 kind_text (Idl kind) = idl_kind_text kind
 kind_text (Program kind) = parse_kind_text kind
 kind_text (Check kind) = check_kind_text kind
 kind_text (Durations kind) = duration_kind_text kind
-kind_text NotYet = codes "NotYet"
+kind_text (Workers kind) = workers_kind_text kind
+kind_text NoWorker = codes "NoWorker"
 
 -- faults of a program that runs
 abbrev pub fault_kind_text : FaultKind → List ℕ

@@ -1,221 +1,188 @@
 -- What a call of `gs run` did.
-use Rattle.std.specs.Prelude.{◌≡◌, ◌⊎◌, ℕ, ◌≤◌, List, [], ◌++◌, length, take, option_map, false, Result, Ok, Err}
-use Rattle.gs_idl.specs.Interface.{Interface}
-use Rattle.gs_tree.specs.Program.{Program}
+use Rattle.std.specs.Prelude.{◌≡◌, ◌⊎◌, ℕ, ◌≤◌, List, ◌++◌, length, take, Option, None, Result, Ok, Err}
+use Rattle.std.specs.Bool.{⊤}
 use Rattle.gs_types.specs.Counts.{Rises}
 use Rattle.gs_types.specs.History.{History}
 use Rattle.gs_types.specs.Job.{Meaning}
+use Rattle.gs_types.specs.declared.settings.Settings.{Settings}
 use Rattle.gs_disk.specs.Folder.{Folder, DiskState, Same}
-use Rattle.gs_disk.specs.Moments.{Passes, LeavesOnly}
+use Rattle.gs_disk.specs.Moments.{EachNow, Passes}
+use Rattle.gs_entries.specs.declared.entry.Entry.{Entry as Recorded}
+use Rattle.gs_entries.specs.declared.entry.Texts.{Texts}
+use Rattle.gs_store.specs.Keeps.{HasEntries}
+use Rattle.gs_idl.specs.Interface.{Interface}
+use Rattle.gs_tree.specs.Program.{Program}
+use Rattle.gs_broker.specs.Text.{Entry as Worker}
 use Rattle.gs_talk.specs.declared.question.Question.{Question}
 use Rattle.gs_talk.specs.declared.question.Question.TheVariants as q
-use Rattle.gs_talk.specs.Talk.{State, Stop}
-use Rattle.gs_talk.specs.Seq.{Known, Run, seq, EndsIn}
-use Rattle.gs_main.specs.Talking.{given_by}
-use Rattle.gs_serial.specs.Played.{TellsAfter}
-use Rattle.gs_serial.specs.Run.{run_of, is_written, RanInto, RanLost, RanUntil}
-use Rattle.gs_form.specs.declared.worker.Worker.{Worker}
-use Rattle.gs_run.specs.Served.{Served, Present, FirstAbsent, Refused}
+use Rattle.gs_talk.specs.Seq.{EndsIn}
+use Rattle.gs_life.specs.Origin.{Origin, run_of}
+use Rattle.gs_life.specs.Stands.{Stands}
+use Rattle.gs_run.specs.Course.{IsRunOf, Takes, Stood, IsTextOf}
+use Rattle.gs_run.specs.Ready.{LacksText, HasFault, IsOther, HasBad, HasResults, HasClosed, MayRun}
+use Rattle.gs_run.specs.Served.{HasList, Served}
+use Rattle.gs_run.specs.Unserved.{unserved}
+use Rattle.gs_run.specs.declared.stop.Stop.{Stop}
 use Rattle.gs_run.specs.declared.stop.Stop.TheVariants as stop
-use Rattle.gs_run.specs.declared.stop.Stop as stops
-
--- ---- the sequential run
-
--- of a program over a folder, with so much fuel
-abbrev pub run_in : (fuel : ℕ) → (idl_name program_name : List ℕ) → Interface → Program → Meaning → Folder → Run
-run_in fuel idl_name program_name i p law folder =
-    run_of (given_by idl_name program_name i p) law folder fuel
-
--- no action of the run writes the file
-abbrev pub IsUntouched : Run → List ℕ → Type 0
-IsUntouched r x = (k : ℕ) → is_written r k x ≡ false
-
--- the run ended, the folder has its files, and this is its text; the link tells its tasks
-pub record Ended (program : List ℕ) (r : Run) (folder : Folder) (text : List ℕ)
-    (tells : History → Type 0) (past : History) : Type 0 where
-  pub moment : ℕ
-  pub state : State
-  pub rest : (seq r moment).rest ≡ Stop q.End state
-  pub ends : EndsIn r moment q.End
-  pub files : (x : List ℕ) → (seq r moment).world.files x ≡ option_map Known (folder x)
-  pub text_is : text ≡ state.text
-  pub told : TellsAfter program r.texts.ops tells past (seq r moment).world []
-
--- ---- the folder as the call began
-
--- its texts say an interface, a program that passes and a worker, of which this holds
-abbrev pub IsServed : Folder → (idl program workers : List ℕ)
-    → (Interface → Program → Worker → Type 0) → Type 0
-IsServed folder idl program workers P = (i : Interface) × (p : Program) × (worker : Worker)
-    × Served folder idl program workers i p worker × P i p worker
-
--- what each answer says of it
-abbrev pub Judged : Folder → (idl program workers : List ℕ) → Result Unit stops.Stop → Type 0
-Judged folder idl program workers (Ok done) =
-    IsServed folder idl program workers (λ i p worker. Unit {0})
-Judged folder idl program workers (Err (stop.Usage word)) = ⊥
-Judged folder idl program workers (Err (stop.NoText name)) =
-    FirstAbsent folder idl program workers name
-Judged folder idl program workers (Err (stop.BadText name line kind)) =
-    Present folder idl program workers × Refused folder idl program workers name line kind
-Judged folder idl program workers (Err (stop.Fault line kind)) =
-    IsServed folder idl program workers (λ i p worker. Unit {0})
-Judged folder idl program workers (Err (stop.FuelOut steps)) =
-    IsServed folder idl program workers (λ i p worker. Unit {0})
-Judged folder idl program workers (Err (stop.Lost n)) =
-    IsServed folder idl program workers (λ i p worker. Unit {0})
-Judged folder idl program workers (Err (stop.BadStore why)) = ⊥
-Judged folder idl program workers (Err stop.Gated) = ⊥
-Judged folder idl program workers (Err stop.NoRun) = ⊥
-Judged folder idl program workers (Err stop.Disk) = Unit {0}
-Judged folder idl program workers (Err stop.Sink) =
-    IsServed folder idl program workers (λ i p worker. Unit {0})
-Judged folder idl program workers (Err stop.Memory) = Unit {0}
 
 -- ---- the counts of faults
 
 -- what each answer says of those of the disk, the link and the output
-abbrev pub Cause : (fuel : ℕ) → (disk_old disk_new link_old link_new out_old out_new : ℕ)
-    → Result Unit stops.Stop → Type 0
-Cause fuel d e k l o p (Ok done) = Unit {0}
-Cause fuel d e k l o p (Err (stop.Usage word)) = ⊥
-Cause fuel d e k l o p (Err (stop.NoText name)) = Unit {0}
-Cause fuel d e k l o p (Err (stop.BadText name line kind)) = Unit {0}
-Cause fuel d e k l o p (Err (stop.Fault line kind)) = Unit {0}
-Cause fuel d e k l o p (Err (stop.FuelOut steps)) = steps ≡ fuel
-Cause fuel d e k l o p (Err (stop.Lost n)) = Rises k l
-Cause fuel d e k l o p (Err (stop.BadStore why)) = ⊥
-Cause fuel d e k l o p (Err stop.Gated) = ⊥
-Cause fuel d e k l o p (Err stop.NoRun) = ⊥
-Cause fuel d e k l o p (Err stop.Disk) = Rises d e
-Cause fuel d e k l o p (Err stop.Sink) = Rises o p
-Cause fuel d e k l o p (Err stop.Memory) = Unit {0}
+abbrev pub BlamesBy : (fuel : ℕ) → (disk_old disk_new link_old link_new out_old out_new : ℕ)
+    → Stop → Type 0
+BlamesBy fuel d e k l o p (stop.Usage word) = ⊥
+BlamesBy fuel d e k l o p (stop.NoText name) = ⊤
+BlamesBy fuel d e k l o p (stop.BadText name line kind) = ⊤
+BlamesBy fuel d e k l o p (stop.OtherRun what) = ⊤
+BlamesBy fuel d e k l o p (stop.BadStore why) = ⊤
+BlamesBy fuel d e k l o p (stop.Fault line kind) = ⊤
+BlamesBy fuel d e k l o p (stop.FuelOut steps) = steps ≡ fuel
+BlamesBy fuel d e k l o p (stop.TaskLost n) = Rises k l
+BlamesBy fuel d e k l o p (stop.WorkersLost n) = Rises k l
+BlamesBy fuel d e k l o p stop.Gated = ⊥
+BlamesBy fuel d e k l o p stop.NoRun = ⊥
+BlamesBy fuel d e k l o p stop.Disk = Rises d e
+BlamesBy fuel d e k l o p stop.Sink = Rises o p
+BlamesBy fuel d e k l o p stop.Memory = ⊤
 
--- ---- the folder as the call ended, and what a crash may leave of it
+abbrev pub Blames : {T : Type 0} → (fuel : ℕ)
+    → (disk_old disk_new link_old link_new out_old out_new : ℕ) → Result T Stop → Type 0
+Blames fuel d e k l o p (Ok x) = ⊤
+Blames fuel d e k l o p (Err failure) = BlamesBy fuel d e k l o p failure
 
--- no run that the folder's texts say writes the file
-abbrev pub IsUnwritten : (fuel : ℕ) → Meaning → Folder → (idl program workers : List ℕ) → List ℕ → Type 0
-IsUnwritten fuel law folder idl program workers x = (i : Interface) (p : Program) (worker : Worker)
-    → Served folder idl program workers i p worker
-    → IsUntouched (run_in fuel idl program i p law folder) x
+-- ---- the folder as the call began
 
--- each such file is the same
-pub record KeepsUnwritten (fuel : ℕ) (law : Meaning) (folder : Folder) (idl program workers : List ℕ)
-    (old new : Folder) : Type 0 where
-  pub each : (x : List ℕ) → IsUnwritten fuel law folder idl program workers x → new x ≡ old x
+-- the texts say this, and a run may begin or go on
+abbrev pub IsServed : Folder → (idl program workers : List ℕ) → Type 0
+IsServed folder idl program workers = (t : Texts) × MayRun folder idl program t
+    × ((i : Interface) × (p : Program) × (list : List Worker)
+    × Served t (folder workers) i p list)
+
+-- results are there, or the run may begin or go on
+abbrev pub MayServe : Folder → (idl program workers : List ℕ) → Type 0
+MayServe folder idl program workers =
+    HasResults folder idl program ⊎ IsServed folder idl program workers
+
+-- what each answer says of it
+abbrev pub Judged : Folder → (idl program workers : List ℕ) → Result Unit Stop → Type 0
+Judged folder idl program workers (Ok done) = MayServe folder idl program workers
+Judged folder idl program workers (Err (stop.Usage word)) = ⊥
+Judged folder idl program workers (Err (stop.NoText name)) =
+    LacksText folder idl program workers name
+Judged folder idl program workers (Err (stop.BadText name line kind)) =
+    HasFault folder idl program workers name line kind
+Judged folder idl program workers (Err (stop.OtherRun what)) = IsOther folder idl program what
+Judged folder idl program workers (Err (stop.BadStore why)) =
+    HasBad folder idl program why ⊎ MayServe folder idl program workers
+Judged folder idl program workers (Err (stop.Fault line kind)) =
+    IsServed folder idl program workers
+Judged folder idl program workers (Err (stop.FuelOut steps)) =
+    IsServed folder idl program workers
+Judged folder idl program workers (Err (stop.TaskLost n)) = IsServed folder idl program workers
+Judged folder idl program workers (Err (stop.WorkersLost n)) =
+    IsServed folder idl program workers
+Judged folder idl program workers (Err stop.Gated) = ⊥
+Judged folder idl program workers (Err stop.NoRun) = ⊥
+Judged folder idl program workers (Err stop.Disk) = ⊤
+Judged folder idl program workers (Err stop.Sink) = MayServe folder idl program workers
+Judged folder idl program workers (Err stop.Memory) = ⊤
+
+-- ---- what is left
 
 -- nothing was written: every file reads as before, and each image, within the call too, is one of
 -- before
 pub record Untouched (old new : DiskState) : Type 0 where
-  pub files : (x : List ℕ) → new.folder x ≡ old.folder x
+  pub files : new.folder ≡ old.folder
   pub images : Passes Same old new
 
--- All tasks of the run have finished, and it ended. Its files may be written; every other file
--- reads as before, and in each image, within the call too, is as in one of before.
-pub record Written (fuel : ℕ) (law : Meaning) (idl program workers : List ℕ) (tells : History → Type 0)
-    (past : History) (old new : DiskState) : Type 0 where
-  pub ended : IsServed old.folder idl program workers (λ i p worker.
-      RanInto worker.program (run_in fuel idl program i p law old.folder) tells past q.End)
-  pub files : KeepsUnwritten fuel law old.folder idl program workers old.folder new.folder
-  pub images : Passes (KeepsUnwritten fuel law old.folder idl program workers) old new
-
--- what each answer leaves; at the end the folder is its only image
-abbrev pub Left : (fuel : ℕ) → Meaning → (idl program workers : List ℕ) → (tells : History → Type 0)
-    → (past : History) → (old new : DiskState) → Result Unit stops.Stop → Type 0
-Left fuel law idl program workers tells past old new (Ok done) =
-    Written fuel law idl program workers tells past old new × LeavesOnly new.folder new
-Left fuel law idl program workers tells past old new (Err (stop.Usage word)) = ⊥
-Left fuel law idl program workers tells past old new (Err (stop.NoText name)) = Untouched old new
-Left fuel law idl program workers tells past old new (Err (stop.BadText name line kind)) =
-    Untouched old new
-Left fuel law idl program workers tells past old new (Err (stop.Fault line kind)) = Untouched old new
-Left fuel law idl program workers tells past old new (Err (stop.FuelOut steps)) = Untouched old new
-Left fuel law idl program workers tells past old new (Err (stop.Lost n)) = Untouched old new
-Left fuel law idl program workers tells past old new (Err (stop.BadStore why)) = ⊥
-Left fuel law idl program workers tells past old new (Err stop.Gated) = ⊥
-Left fuel law idl program workers tells past old new (Err stop.NoRun) = ⊥
-Left fuel law idl program workers tells past old new (Err stop.Disk) =
-    Untouched old new ⊎ Written fuel law idl program workers tells past old new
-Left fuel law idl program workers tells past old new (Err stop.Sink) =
-    Written fuel law idl program workers tells past old new × LeavesOnly new.folder new
-Left fuel law idl program workers tells past old new (Err stop.Memory) =
-    Untouched old new ⊎ Written fuel law idl program workers tells past old new
+-- where a text is refused, or the store is of another run or can't be loaded
+abbrev pub Left : (old new : DiskState) → (idl program workers : List ℕ) → Result Unit Stop
+    → Type 0
+Left old new i p w (Ok done) = ⊤
+Left old new i p w (Err (stop.Usage word)) = ⊥
+Left old new i p w (Err (stop.NoText name)) = Untouched old new
+Left old new i p w (Err (stop.BadText name line kind)) = Untouched old new
+Left old new i p w (Err (stop.OtherRun what)) = Untouched old new
+Left old new i p w (Err (stop.BadStore why)) = Untouched old new ⊎ MayServe old.folder i p w
+Left old new i p w (Err (stop.Fault line kind)) = ⊤
+Left old new i p w (Err (stop.FuelOut steps)) = ⊤
+Left old new i p w (Err (stop.TaskLost n)) = ⊤
+Left old new i p w (Err (stop.WorkersLost n)) = ⊤
+Left old new i p w (Err stop.Gated) = ⊥
+Left old new i p w (Err stop.NoRun) = ⊥
+Left old new i p w (Err stop.Disk) = ⊤
+Left old new i p w (Err stop.Sink) = ⊤
+Left old new i p w (Err stop.Memory) = ⊤
 
 -- ---- the output
 
 -- each answer but these two writes nothing
-abbrev pub Wrote : (old new : List ℕ) → Result Unit stops.Stop → Type 0
+abbrev pub Wrote : (old new : List ℕ) → Result Unit Stop → Type 0
 Wrote old new (Ok done) = (text : List ℕ) × (new ≡ old ++ text)
 Wrote old new (Err (stop.Usage word)) = ⊥
 Wrote old new (Err (stop.NoText name)) = new ≡ old
 Wrote old new (Err (stop.BadText name line kind)) = new ≡ old
+Wrote old new (Err (stop.OtherRun what)) = new ≡ old
+Wrote old new (Err (stop.BadStore why)) = new ≡ old
 Wrote old new (Err (stop.Fault line kind)) = new ≡ old
 Wrote old new (Err (stop.FuelOut steps)) = new ≡ old
-Wrote old new (Err (stop.Lost n)) = new ≡ old
-Wrote old new (Err (stop.BadStore why)) = ⊥
+Wrote old new (Err (stop.TaskLost n)) = new ≡ old
+Wrote old new (Err (stop.WorkersLost n)) = new ≡ old
 Wrote old new (Err stop.Gated) = ⊥
 Wrote old new (Err stop.NoRun) = ⊥
 Wrote old new (Err stop.Disk) = new ≡ old
 Wrote old new (Err stop.Sink) = (text : List ℕ) × (k : ℕ) × (new ≡ old ++ take k text)
 Wrote old new (Err stop.Memory) = new ≡ old
 
--- ---- the run
-
--- what each answer says of the sequential run under the link's law, and of the link's events
-abbrev pub Happened : (fuel : ℕ) → (wrote : Type 0) → Meaning → (idl program workers : List ℕ)
-    → (old new : Folder) → (tells : History → Type 0) → (past : History)
-    → (written_old written_new : List ℕ) → Result Unit stops.Stop → Type 0
-Happened fuel wrote law idl program workers old new tells past before after (Ok done) =
-    IsServed old idl program workers (λ i p worker. (text : List ℕ)
-    × Ended worker.program (run_in fuel idl program i p law old) new text tells past
-    × (wrote → after ≡ before ++ text))
-Happened fuel wrote law idl program workers old new tells past before after (Err (stop.Usage word)) = ⊥
-Happened fuel wrote law idl program workers old new tells past before after (Err (stop.NoText name)) =
-    tells past
-Happened fuel wrote law idl program workers old new tells past before after
-    (Err (stop.BadText name line kind)) = tells past
-Happened fuel wrote law idl program workers old new tells past before after
-    (Err (stop.Fault line kind)) = IsServed old idl program workers (λ i p worker.
-    RanInto worker.program (run_in fuel idl program i p law old) tells past (q.Fault line kind))
-Happened fuel wrote law idl program workers old new tells past before after
-    (Err (stop.FuelOut steps)) = IsServed old idl program workers (λ i p worker.
-    RanInto worker.program (run_in fuel idl program i p law old) tells past q.FuelOut)
-Happened fuel wrote law idl program workers old new tells past before after (Err (stop.Lost n)) =
-    IsServed old idl program workers (λ i p worker.
-    RanLost worker.program (run_in fuel idl program i p law old) tells past n)
-Happened fuel wrote law idl program workers old new tells past before after
-    (Err (stop.BadStore why)) = ⊥
-Happened fuel wrote law idl program workers old new tells past before after
-    (Err stop.Gated) = ⊥
-Happened fuel wrote law idl program workers old new tells past before after
-    (Err stop.NoRun) = ⊥
-Happened fuel wrote law idl program workers old new tells past before after (Err stop.Disk) =
-    tells past ⊎ IsServed old idl program workers (λ i p worker.
-    RanUntil worker.program (run_in fuel idl program i p law old) tells past)
-Happened fuel wrote law idl program workers old new tells past before after (Err stop.Sink) =
-    IsServed old idl program workers (λ i p worker. (text : List ℕ)
-    × Ended worker.program (run_in fuel idl program i p law old) new text tells past
-    × (wrote → (k : ℕ) × (k ≤ length text) × (after ≡ before ++ take k text)))
-Happened fuel wrote law idl program workers old new tells past before after (Err stop.Memory) =
-    tells past ⊎ IsServed old idl program workers (λ i p worker.
-    RanUntil worker.program (run_in fuel idl program i p law old) tells past)
+-- at the end the text of the sequential run was written; where the output failed, a first part of it
+abbrev pub Printed : Origin → (old new : List ℕ) → Result Unit Stop → Type 0
+Printed o old new (Ok done) = (text : List ℕ) × IsTextOf o text × (new ≡ old ++ text)
+Printed o old new (Err (stop.Usage word)) = ⊥
+Printed o old new (Err (stop.NoText name)) = ⊤
+Printed o old new (Err (stop.BadText name line kind)) = ⊤
+Printed o old new (Err (stop.OtherRun what)) = ⊤
+Printed o old new (Err (stop.BadStore why)) = ⊤
+Printed o old new (Err (stop.Fault line kind)) = ⊤
+Printed o old new (Err (stop.FuelOut steps)) = ⊤
+Printed o old new (Err (stop.TaskLost n)) = ⊤
+Printed o old new (Err (stop.WorkersLost n)) = ⊤
+Printed o old new (Err stop.Gated) = ⊥
+Printed o old new (Err stop.NoRun) = ⊥
+Printed o old new (Err stop.Disk) = ⊤
+Printed o old new (Err stop.Sink) = (text : List ℕ) × IsTextOf o text
+    × ((k : ℕ) × (k ≤ length text) × (new ≡ old ++ take k text))
+Printed o old new (Err stop.Memory) = ⊤
 
 -- ---- all of it
 
--- what a call did with three names and so much fuel, on a disk that tells its folder where `told` holds, a link
--- under a law, and an output that tells what was written where `wrote` holds
-pub record Ran (fuel : ℕ) (told wrote : Type 0) (old new : DiskState) (law : Meaning)
+-- the call is one of this run: it is of the texts of these names, the link goes by its law and tells
+-- this history, and each image stands
+pub record Begins (o : Origin) (idl program : List ℕ) (law : Meaning) (tells : History → Type 0)
+    (past : History) (disk : DiskState) : Type 0 where
+  pub run_is : IsRunOf o idl program
+  pub law_is : law ≡ o.law
+  pub told : tells past
+  pub stand : EachNow (Stands o) disk
+
+-- what a call did with three names and these settings, on a disk that tells its folder where `told`
+-- holds, a link under a law, and an output that tells what was written where `wrote` holds. Where
+-- the store is closed nothing is written to the disk
+pub record Ran (settings : Settings) (told wrote : Type 0) (old new : DiskState) (law : Meaning)
     (tells_old tells_new : History → Type 0) (link_old link_new out_old out_new : ℕ)
     (written_old written_new : List ℕ) (idl program workers : List ℕ)
-    (answer : Result Unit stops.Stop) : Type 0 where
-  pub cause : Cause fuel old.faults new.faults link_old link_new out_old out_new answer
+    (answer : Result Unit Stop) : Type 0 where
+  pub cause : Blames settings.fuel old.faults new.faults link_old link_new out_old out_new answer
   pub judged : told → Judged old.folder idl program workers answer
-  pub left : told → (past : History) → tells_old past
-      → Left fuel law idl program workers tells_new past old new answer
+  pub left : told → Left old new idl program workers answer
+  pub still : told → HasClosed old.folder → Untouched old new
   pub written : wrote → Wrote written_old written_new answer
-  pub happened : told → (past : History) → tells_old past
-      → Happened fuel wrote law idl program workers old.folder new.folder tells_new past
-      written_old written_new answer
+  pub stood : told → (o : Origin) (past : History)
+      → Begins o idl program law tells_old past old
+      → (es : List Recorded) × HasEntries es old.folder
+      × Stood o es past old new tells_new (Takes o settings es
+      (HasResults old.folder idl program) (old.folder workers) answer) answer
+  pub printed : told → wrote → (o : Origin) (past : History)
+      → Begins o idl program law tells_old past old → Printed o written_old written_new answer
 
 -- ---- runs that end, and no fault
 
@@ -229,3 +196,20 @@ IsStatusOf (q.Use n place) status = Unit {0}
 IsStatusOf (q.OpenFile name mode line) status = Unit {0}
 IsStatusOf (q.CloseFile name bytes) status = Unit {0}
 IsStatusOf q.Barrier status = Unit {0}
+
+-- the file lists workers, of whom each operation that the run calls has one
+pub record HasWorkers (o : Origin) (file : Option (List ℕ)) : Type 0 where
+  pub list : List Worker
+  pub listed : HasList o.given.ops file list
+  pub all : unserved o.given.ops list o.given.program.body ≡ None
+
+-- The folder holds the run's texts and a store of theirs: results are there, or the run may begin or
+-- go on where its workers are listed. Where results are there the status is 0, and where the run may
+-- begin or go on it is that of the sequential run's end; or want of memory.
+pub record IsComplete (o : Origin) (fuel : ℕ) (folder : Folder) (idl program workers : List ℕ)
+    (status : ℕ) : Type 0 where
+  pub finds : HasResults folder idl program
+      ⊎ (HasWorkers o (folder workers) → IsServed folder idl program workers)
+  pub brings : HasResults folder idl program → (status ≡ 0) ⊎ (status ≡ 12)
+  pub ends : IsServed folder idl program workers → (k : ℕ) (x : Question)
+      → EndsIn (run_of o fuel) k x → IsStatusOf x status ⊎ (status ≡ 12)

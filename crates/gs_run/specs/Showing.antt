@@ -1,8 +1,7 @@
 -- How the parts of a check end.
-use Rattle.std.specs.Prelude.{◌≡◌, ℕ, ◌≤◌, List, ◌++◌, length, take, Option, None, Result, Ok, Err}
+use Rattle.std.specs.Prelude.{◌≡◌, ℕ, ◌≤◌, List, ◌++◌, length, take, Option, Some, None, Result, Ok, Err}
 use Rattle.gs_types.specs.Counts.{Rises}
-use Rattle.gs_run.specs.Judging.{IsTextOf}
-use Rattle.gs_run.specs.Texts.{IsWithin, IsBeyond}
+use Rattle.gs_run.specs.Texts.{IsBeyond}
 use Rattle.gs_run.specs.declared.kinds.TextKind.{TextKind}
 use Rattle.gs_run.specs.declared.refusal.Refusal.{Refusal}
 use Rattle.gs_run.specs.declared.refusal.Refusal.TheVariants.{NoText, BadText, Disk, Memory}
@@ -10,11 +9,10 @@ use Rattle.gs_run.specs.declared.showing.Unshown.{Unshown}
 use Rattle.gs_run.specs.declared.showing.Unshown.TheVariants as unshown
 use Rattle.gs_run.specs.declared.stop.Stop.{Stop}
 use Rattle.gs_run.specs.declared.stop.Stop.TheVariants as stop
-use Rattle.gs_run.specs.declared.texts.Text.{Text}
 
 -- reading a text within the limit fails where it is absent or longer, by the disk, or for want of
 -- memory
-abbrev pub ShortEnds : ℕ → ℕ → Result Text Refusal → Type 0
+abbrev pub ShortEnds : ℕ → ℕ → Result (List ℕ) Refusal → Type 0
 ShortEnds old new (Ok t) = Unit {0}
 ShortEnds old new (Err (NoText name)) = Unit {0}
 ShortEnds old new (Err (BadText name line k)) = Unit {0}
@@ -23,8 +21,8 @@ ShortEnds old new (Err Memory) = Unit {0}
 
 -- of the file of this name
 abbrev pub ShortTold : Option (List ℕ) → (name : List ℕ) → (too_long : TextKind)
-    → Result Text Refusal → Type 0
-ShortTold file name too_long (Ok t) = IsTextOf file t × IsWithin file
+    → Result (List ℕ) Refusal → Type 0
+ShortTold file name too_long (Ok t) = (file ≡ Some t) × (length t ≤ 65536)
 ShortTold file name too_long (Err (NoText n)) = (n ≡ name) × (file ≡ None)
 ShortTold file name too_long (Err (BadText n line k)) = (n ≡ name) × (line ≡ 0) × (k ≡ too_long)
     × IsBeyond file

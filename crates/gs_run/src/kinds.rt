@@ -1,7 +1,8 @@
 // How a text goes wrong.
 ghost use Rattle.std.specs.Prelude.{◌≡◌};
-ghost use Rattle.gs_run.specs.Kinds.{idl_kind_text, parse_kind_text, check_kind_text, duration_kind_text, fault_kind_text, kind_text};
+ghost use Rattle.gs_run.specs.Kinds.{idl_kind_text, parse_kind_text, check_kind_text, duration_kind_text, workers_kind_text, fault_kind_text, kind_text};
 
+use gs_broker::WorkersKind;
 use gs_check::CheckKind;
 use gs_idl::IdlKind;
 use gs_parse::ParseKind;
@@ -9,14 +10,15 @@ use gs_plan::DurKind;
 use gs_types::FaultKind;
 
 /// How a text goes wrong: an IDL by its grammar, a program by its grammar or its checks, a list of
-/// durations, or a text that says what isn't carried out yet.
+/// durations or of workers; or a program by a call of an operation that no worker takes.
 #[derive(Clone, Copy, PartialEq, Eq, Debug)]
 pub enum TextKind {
     Idl { kind: IdlKind },
     Program { kind: ParseKind },
     Check { kind: CheckKind },
     Durations { kind: DurKind },
-    NotYet,
+    Workers { kind: WorkersKind },
+    NoWorker,
 }
 
 fn idl_kind_text(kind: IdlKind) -> &'static [u8]
@@ -80,6 +82,22 @@ fn duration_kind_text(kind: DurKind) -> &'static [u8]
     }
 }
 
+fn workers_kind_text(kind: WorkersKind) -> &'static [u8]
+    ensures { result.now ≡ workers_kind_text kind }
+{
+    match kind {
+        WorkersKind::TooLong => b"TooLong",
+        WorkersKind::BadByte => b"BadByte",
+        WorkersKind::BadLine => b"BadLine",
+        WorkersKind::BadName => b"BadName",
+        WorkersKind::BadSlots => b"BadSlots",
+        WorkersKind::UnknownOp => b"UnknownOp",
+        WorkersKind::Twice => b"Twice",
+        WorkersKind::TooMany => b"TooMany",
+        WorkersKind::Empty => b"Empty",
+    }
+}
+
 /// The word for a kind.
 pub(crate) fn kind_text(kind: TextKind) -> &'static [u8]
     ensures { result.now ≡ kind_text kind }
@@ -89,7 +107,8 @@ pub(crate) fn kind_text(kind: TextKind) -> &'static [u8]
         TextKind::Program { kind } => parse_kind_text(kind),
         TextKind::Check { kind } => check_kind_text(kind),
         TextKind::Durations { kind } => duration_kind_text(kind),
-        TextKind::NotYet => b"NotYet",
+        TextKind::Workers { kind } => workers_kind_text(kind),
+        TextKind::NoWorker => b"NoWorker",
     }
 }
 

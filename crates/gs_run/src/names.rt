@@ -1,13 +1,13 @@
 // What a run and a check are told.
-use gs_types::Name;
+use gs_types::{Name, Settings};
 
-/// The names of the three texts of a run, and how many steps its program may take.
+/// The names of the three texts of a run, and what it is told.
 #[derive(Drop)]
 pub(crate) struct Words {
     pub idl: Name,
     pub program: Name,
     pub workers: Name,
-    pub fuel: u64,
+    pub settings: Settings,
 }
 
 /// The names of the two texts of a check.

@@ -1,18 +1,11 @@
 // The top call.
-ghost use Rattle.std.specs.Prelude.{◌≡◌, ◌≤◌, ◌⊎◌, ◌++◌, ℕ, List, map, Result, Err, IfOk};
+ghost use Rattle.std.specs.Prelude.{◌≡◌, ◌⊎◌, ◌++◌, ℕ, List, map, Result};
 ghost use Rattle.std.specs.String.{string_bytes};
 ghost use Rattle.gs_types.specs.Counts.{Rises};
 ghost use Rattle.gs_types.specs.History.{History};
-ghost use Rattle.gs_idl.specs.Interface.{Interface};
-ghost use Rattle.gs_tree.specs.Program.{Program};
-ghost use Rattle.gs_check.specs.Passing.{program_in, interface_in};
-ghost use Rattle.gs_form.specs.declared.worker.Worker.{Worker};
+ghost use Rattle.gs_life.specs.Origin.{Origin};
 ghost use Rattle.gs_site.specs.Link.{IsIdle};
 ghost use Rattle.gs_site.specs.Site.{disk_of, link_of};
-ghost use Rattle.gs_talk.specs.declared.question.Question as question;
-ghost use Rattle.gs_talk.specs.Seq.{EndsIn};
-ghost use Rattle.gs_main.specs.Talking.{first_talking};
-ghost use Rattle.gs_main.specs.Shown.{talking};
 ghost use Rattle.gs_types.specs.declared.settings.Settings.{Settings};
 ghost use Rattle.gs_words.specs.Usage.{IsReading};
 ghost use Rattle.gs_words.specs.Words.{IsRun, IsCheck, Says};
@@ -23,71 +16,20 @@ ghost use Rattle.gs_verbs.specs.Planning.{HasPlan};
 ghost use Rattle.gs_run.specs.Asked.{Wish, HasSlots, IsNoRun, IsNothing};
 ghost use Rattle.gs_run.specs.Checking.{HoldsBoth};
 ghost use Rattle.gs_run.specs.Did.{Did};
-ghost use Rattle.gs_run.specs.Ran.{Ran, run_in, IsStatusOf};
-ghost use Rattle.gs_run.specs.Served.{Served};
+ghost use Rattle.gs_run.specs.Ran.{Begins, IsComplete};
 ghost use Rattle.gs_run.specs.Stop.{status_of, message_of};
 ghost use Rattle.gs_run.specs.declared.stop.Stop.{Stop};
 
 use crate::Stop;
 use crate::checking::check_texts;
-use crate::handing::{halted, hand_over, handed};
-use crate::judge::judge;
 use crate::names::{CheckWords, Words};
-use crate::refusal::stopped;
+use crate::running::run_texts;
 use crate::verbs::{cleaned, planned, reported};
-use gs_check::Checked;
 use gs_disk::Disk;
-use gs_main::Main;
-use gs_serial::carry_out;
 use gs_site::{Link, Site};
-use gs_types::{NoMemory, Sink};
+use gs_types::Sink;
 use gs_words::{Command, Usage, read};
 use std::alloc::Global;
-
-/// The program at its beginning, with its fuel.
-fn begin(alloc: Global, words: &Words, checked: Checked) -> Result<Main, NoMemory>
-    ensures { IfOk result (λ m. talking m ≡ first_talking words.now.idl words.now.program
-        (interface_in checked) (program_in checked) words.now.fuel) }
-{
-    Main::new(
-        alloc,
-        checked,
-        words.idl.copy(),
-        words.program.copy(),
-        words.fuel,
-    )
-}
-
-/// Carries out the texts of these names.
-fn attempt<D: Disk, K: Link, O: Sink>(
-    alloc: Global,
-    words: &Words,
-    site: &mut Site<D, K>,
-    out: &mut O,
-) -> Result<(), Stop>
-    requires { IsIdle (K.jobs (link_of site.old)) }
-    ensures idle { IsIdle (K.jobs (link_of site.new)) }
-    ensures ran { Ran words.now.fuel D.tells O.tells (D.state (disk_of site.old)) (D.state (disk_of site.new))
-        (K.L.meaning (K.law (link_of site.old)))
-        (K.tells (link_of site.old)) (K.tells (link_of site.new))
-        (K.faults (link_of site.old)) (K.faults (link_of site.new))
-        (O.faults out.old) (O.faults out.new) (O.written out.old) (O.written out.new)
-        words.now.idl words.now.program words.now.workers result }
-{
-    let plan = match judge(alloc, site.disk(), words) {
-        Ok(plan) => plan,
-        Err(refusal) => return Err(stopped(refusal)),
-    };
-    let mut main = match begin(alloc, words, plan.checked) {
-        Ok(main) => main,
-        Err(_) => return Err(Stop::Memory),
-    };
-    let changed = match carry_out(alloc, site, &mut main, &plan.worker.program) {
-        Ok(changed) => changed,
-        Err(halt) => return Err(halted(words.fuel, halt)),
-    };
-    handed(hand_over(site.disk(), &changed, main.text(), out))
-}
 
 /// Does what is wished for.
 fn serve<D: Disk, K: Link, O: Sink>(
@@ -122,9 +64,9 @@ fn serve<D: Disk, K: Link, O: Sink>(
                 idl,
                 program,
                 workers,
-                fuel: settings.fuel,
+                settings,
             };
-            attempt(alloc, &words, site, out)
+            run_texts(alloc, &words, site, out)
         }
         Ok(Command::Check { idl, program }) => {
             check_texts(alloc, site.disk(), &CheckWords { idl, program }, out)
@@ -156,16 +98,20 @@ fn report<E: Sink>(answer: Result<(), Stop>, err: &mut E) -> u8
 }
 
 /// Serves the words of a command on a site with no job in flight, and leaves none: `run IDL PROGRAM
-/// WORKERS` with its options, of which the window and the tries don't matter while one task runs at
-/// a time; `check IDL PROGRAM`; `report`; `clean`; and `plan SLOTS DURATIONS`. Gives the exit
-/// status: 0 where all was done; 2 where the words say none of these; 3 where a text is absent; 4
-/// where one goes wrong, or a worker list has a form that isn't carried out yet; 6 where the folder's
-/// store is none, or can't be used; 7 where the program met a fault; 8 where its fuel ran out; 9
-/// where a task was lost; 10 where the disk failed; 11 where the output failed; 12 where memory was
-/// wanting; 13 where the store to be removed holds results that may not be in the user's files; 15
-/// where no run has ended that could be planned. At each status but 0 it writes the status's line to
-/// `err`. To `out` goes what the program prints, once its files are written; or what `check` prints:
+/// WORKERS` with its options, `check IDL PROGRAM`, `report`, `clean`, and `plan SLOTS DURATIONS`.
+/// Gives the exit status: 0 where all was done; 2 where the words say none of these; 3 where a text
+/// is absent; 4 where one goes wrong, or an operation that is called has no worker; 5 where the
+/// folder's store is of a run of other texts; 6 where it is none, or can't be used; 7 where the
+/// program met a fault; 8 where its fuel ran out; 9 where a task failed too often, or each worker
+/// that takes it; 10 where the disk failed; 11 where the output failed; 12 where memory was wanting;
+/// 13 where the store to be removed holds results that may not be in the user's files; 15 where no
+/// run has ended that could be planned. At each status but 0 it writes the status's line to `err`.
+/// To `out` goes what the program has printed, once its files are written; or what `check` prints:
 /// the interface, and then the program; or the report, or the plan.
+///
+/// A run keeps a record in the folder. One that stopped, at any moment, goes on where it was called
+/// again with the same texts: from a folder without a record, a call that answers 0 has left the
+/// files of the sequential run and written its text, and no task that was recorded is started again.
 pub fn gs<D: Disk, K: Link, O: Sink, E: Sink>(
     alloc: Global,
     words: &Vec<String>,
@@ -187,19 +133,17 @@ pub fn gs<D: Disk, K: Link, O: Sink, E: Sink>(
         × (IsNoRun wish → link_of site.new ≡ link_of site.old)
         × (IsNothing wish → (disk_of site.new ≡ disk_of site.old) × (out.new ≡ out.old)) }
 
-    // A run that ends, and no fault: its status, or want of memory.
+    // A run whose folder stands for it, and no fault: where results are there 0, and where it may
+    // begin or go on the status of the sequential run's end; or want of memory.
     ensures complete { D.tells → (idl program workers : List ℕ) (settings : Settings)
         → IsRun (map string_bytes words.now.items) idl program workers settings
-        → (i : Interface) (p : Program) (worker : Worker)
-        → Served (D.state (disk_of site.old)).folder idl program workers i p worker
-        → (k : ℕ) (q : question.Question)
-        → EndsIn (run_in settings.fuel idl program i p (K.L.meaning (K.law (link_of site.old)))
-        (D.state (disk_of site.old)).folder) k q
-        → (past : History) → K.tells (link_of site.old) past
+        → (o : Origin) (past : History)
+        → Begins o idl program (K.L.meaning (K.law (link_of site.old))) (K.tells (link_of site.old))
+        past (D.state (disk_of site.old))
         → (Rises (D.state (disk_of site.old)).faults (D.state (disk_of site.new)).faults → ⊥)
         → (Rises (K.faults (link_of site.old)) (K.faults (link_of site.new)) → ⊥)
         → (Rises (O.faults out.old) (O.faults out.new) → ⊥)
-        → IsStatusOf q result ⊎ (result ≡ 12) }
+        → IsComplete o settings.fuel (D.state (disk_of site.old)).folder idl program workers result }
 
     // The same of a check.
     ensures checks { D.tells → (idl program : List ℕ)

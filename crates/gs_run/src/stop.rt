@@ -1,21 +1,22 @@
 // Why a call of `gs` stops.
 ghost use Rattle.std.specs.Prelude.{◌≡◌, ◌≤◌, ◌++◌, OnOk, OnErr, Err, decimal, codes, ◌∷◌, []};
 ghost use Rattle.gs_run.specs.Kinds.{kind_text, fault_kind_text};
-ghost use Rattle.gs_run.specs.Stop.{found_text, bad_store_line};
+ghost use Rattle.gs_run.specs.Stop.{found_text, what_text, bad_store_line};
 ghost use Rattle.gs_store.specs.Names.{version_name};
 ghost use Rattle.gs_types.specs.Counts.{Rises};
 
 use crate::kinds::{TextKind, fault_kind_text, kind_text};
-use gs_store::version_file;
+use gs_store::{What, version_file};
 use gs_types::{FaultKind, Name, Sink, SinkFailed, Version, put_all};
 use gs_verbs::BadStore;
 use itoa::Buffer;
 
 /// Why a call of `gs` stops before it is done: the words have no reading, from the word at this
 /// place on; a text is absent; a text goes wrong, on a line, from 1, or as a whole, on line 0; the
-/// program met a fault on a line, or its fuel ran out; a task was lost; the store of the folder is
-/// none, or isn't used; its results may not be in the user's files yet; no run has ended; the disk
-/// failed; the output failed; memory was wanting.
+/// store of the folder is of a run of other texts, or is none, or isn't used; the program met a
+/// fault on a line, or its fuel ran out; a task failed too often, or each worker that takes it; the
+/// store's results may not be in the user's files yet; no run has ended; the disk failed; the output
+/// failed; memory was wanting.
 #[derive(Drop)]
 pub enum Stop {
     Usage {
@@ -29,6 +30,12 @@ pub enum Stop {
         line: u32,
         kind: TextKind,
     },
+    OtherRun {
+        what: What,
+    },
+    BadStore {
+        bad: BadStore,
+    },
     Fault {
         line: u32,
         kind: FaultKind,
@@ -36,11 +43,11 @@ pub enum Stop {
     FuelOut {
         fuel: u64,
     },
-    Lost {
+    TaskLost {
         n: u32,
     },
-    BadStore {
-        bad: BadStore,
+    WorkersLost {
+        n: u32,
     },
     Gated,
     NoRun,
@@ -66,8 +73,10 @@ impl Stop {
             } => 4,
             Stop::Fault { line: _, kind: _ } => 7,
             Stop::FuelOut { fuel: _ } => 8,
+            Stop::OtherRun { what: _ } => 5,
             Stop::BadStore { bad: _ } => 6,
-            Stop::Lost { n: _ } => 9,
+            Stop::TaskLost { n: _ } => 9,
+            Stop::WorkersLost { n: _ } => 9,
             Stop::Disk => 10,
             Stop::Sink => 11,
             Stop::Memory => 12,
@@ -100,12 +109,19 @@ impl Stop {
                 buffer.format(*fuel).as_bytes(),
                 b"\n",
             ),
-            Stop::Lost { n } => tell_parts(
+            Stop::TaskLost { n } => tell_parts(
                 err,
                 b"gs: task lost: ",
                 buffer.format(*n).as_bytes(),
                 b"\n",
             ),
+            Stop::WorkersLost { n } => tell_parts(
+                err,
+                b"gs: workers lost: ",
+                buffer.format(*n).as_bytes(),
+                b"\n",
+            ),
+            Stop::OtherRun { what } => tell_parts(err, b"gs: other run: ", what_text(*what), b"\n"),
             Stop::BadStore { bad } => tell_bad_store(err, bad),
             Stop::Gated => put_all(err, b"gs: gated\n"),
             Stop::NoRun => put_all(err, b"gs: no run\n"),
@@ -113,6 +129,17 @@ impl Stop {
             Stop::Sink => put_all(err, b"gs: sink fault\n"),
             Stop::Memory => put_all(err, b"gs: no memory\n"),
         }
+    }
+}
+
+fn what_text(what: What) -> &'static [u8]
+    ensures { result.now ≡ what_text what }
+{
+    match what {
+        What::IdlName => b"idl name",
+        What::IdlText => b"idl text",
+        What::ProgramName => b"program name",
+        What::ProgramText => b"program text",
     }
 }
 

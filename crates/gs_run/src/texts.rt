@@ -1,21 +1,20 @@
 // The texts of a command, as they are read and as they are understood.
-ghost use Rattle.std.specs.Prelude.{◌≡◌, ◌≤◌, ℕ, List, Option, IfOk, IfSome, IfNone, None};
+ghost use Rattle.std.specs.Prelude.{◌≡◌, ◌≤◌, Some, IfOk};
 ghost use Rattle.gs_disk.specs.Folder.{Same};
 ghost use Rattle.gs_disk.specs.Moments.{Passes};
-ghost use Rattle.gs_run.specs.Judging.{IsTextOf, IsFileOf, TextEnds, TextsEnd, TextsTold, InterfaceOf, TreeOf, BothOf, WorkerOf, JudgedOnly};
+ghost use Rattle.gs_types.specs.Name.{IsName};
+ghost use Rattle.gs_run.specs.Judging.{IsFileOf, TextEnds, InterfaceOf, TreeOf, BothOf, JudgedOnly};
+ghost use Rattle.gs_run.specs.Showing.{ShortEnds, ShortTold};
 ghost use Rattle.gs_run.specs.declared.refusal.Refusal.TheVariants.{NoText, BadText};
-ghost use Rattle.gs_run.specs.declared.kinds.TextKind.TheVariants as kind;
 
 use crate::kinds::TextKind;
-use crate::names::Words;
 use crate::refusal::Refusal;
 use gs_check::{CheckErr, Checked, check};
 use gs_disk::{Disk, DiskErr, DiskName, Whole, read_whole};
-use gs_form::{Worker, read_worker};
-use gs_idl::{Idl, IdlErr, IdlKind};
-use gs_parse::{ParseErr, ParseKind, parse};
+use gs_idl::{Idl, IdlErr};
+use gs_parse::{ParseErr, parse};
 use gs_tree::Tree;
-use gs_types::{Blob, Name, NoMemory};
+use gs_types::{Blob, Name};
 use std::alloc::Global;
 
 /// The limit of a text, in bytes.
@@ -39,6 +38,7 @@ pub(crate) fn read_text<D: Disk>(
     ensures rise { (D.state disk.old).faults ≤ (D.state disk.new).faults }
     ensures ends { TextEnds (D.state disk.old).faults (D.state disk.new).faults result }
     ensures text { D.tells → IfOk result (λ t. IsFileOf ((D.state disk.old).folder name.now) t) }
+    ensures named { IsName name.now }
 {
     let mut bytes = Vec::new(alloc);
     match read_whole(
@@ -74,47 +74,49 @@ pub(crate) fn bad_text(name: &Name, line: u32, kind: TextKind) -> Refusal
     }
 }
 
-fn interface_of(alloc: Global, text: &Text, name: &Name) -> Result<Idl, Refusal>
-    ensures ends { JudgedOnly result }
-    ensures says { (file : Option (List ℕ)) → IsTextOf file text.now
-        → InterfaceOf file name.now result }
+/// Reads a text within the limit. `NoText` where its file is absent, `BadText` with this kind where
+/// it is longer.
+pub(crate) fn read_short<D: Disk>(
+    alloc: Global,
+    disk: &mut D,
+    name: &Name,
+    too_long: TextKind,
+) -> Result<Blob, Refusal>
+    ensures same { D.tells → (D.state disk.new).folder ≡ (D.state disk.old).folder }
+    ensures images { D.tells → Passes Same (D.state disk.old) (D.state disk.new) }
+    ensures rise { (D.state disk.old).faults ≤ (D.state disk.new).faults }
+    ensures ends { ShortEnds (D.state disk.old).faults (D.state disk.new).faults result }
+    ensures told { D.tells
+        → ShortTold ((D.state disk.old).folder name.now) name.now too_long result }
+    ensures named { IsName name.now }
 {
-    match text {
-        Text::Long => Err(bad_text(
-            name,
-            0,
-            TextKind::Idl {
-                kind: IdlKind::TooLong,
-            },
-        )),
-        Text::Read { bytes } => match gs_idl::read(alloc, bytes.bytes()) {
-            Ok(idl) => Ok(idl),
-            Err(IdlErr::At { line, kind }) => Err(bad_text(name, line, TextKind::Idl { kind })),
-            Err(IdlErr::NoMemory) => Err(Refusal::Memory),
-        },
+    match read_text(alloc, disk, name) {
+        Ok(Some(Text::Read { bytes })) => Ok(bytes),
+        Ok(Some(Text::Long)) => Err(bad_text(name, 0, too_long)),
+        Ok(None) => Err(no_text(name)),
+        Err(stop) => Err(stop),
     }
 }
 
-fn tree_of(alloc: Global, text: &Text, name: &Name) -> Result<Tree, Refusal>
+fn interface_of(alloc: Global, text: &[u8], name: &Name) -> Result<Idl, Refusal>
     ensures ends { JudgedOnly result }
-    ensures says { (file : Option (List ℕ)) → IsTextOf file text.now
-        → TreeOf file name.now result }
+    ensures says { InterfaceOf (Some text.now) name.now result }
 {
-    match text {
-        Text::Long => Err(bad_text(
-            name,
-            0,
-            TextKind::Program {
-                kind: ParseKind::TooLong,
-            },
-        )),
-        Text::Read { bytes } => match parse(alloc, bytes.bytes()) {
-            Ok(tree) => Ok(tree),
-            Err(ParseErr::At { line, kind }) => {
-                Err(bad_text(name, line, TextKind::Program { kind }))
-            }
-            Err(ParseErr::NoMemory) => Err(Refusal::Memory),
-        },
+    match gs_idl::read(alloc, text) {
+        Ok(idl) => Ok(idl),
+        Err(IdlErr::At { line, kind }) => Err(bad_text(name, line, TextKind::Idl { kind })),
+        Err(IdlErr::NoMemory) => Err(Refusal::Memory),
+    }
+}
+
+fn tree_of(alloc: Global, text: &[u8], name: &Name) -> Result<Tree, Refusal>
+    ensures ends { JudgedOnly result }
+    ensures says { TreeOf (Some text.now) name.now result }
+{
+    match parse(alloc, text) {
+        Ok(tree) => Ok(tree),
+        Err(ParseErr::At { line, kind }) => Err(bad_text(name, line, TextKind::Program { kind })),
+        Err(ParseErr::NoMemory) => Err(Refusal::Memory),
     }
 }
 
@@ -123,13 +125,12 @@ fn tree_of(alloc: Global, text: &Text, name: &Name) -> Result<Tree, Refusal>
 pub(crate) fn checked(
     alloc: Global,
     idl_name: &Name,
-    idl: &Text,
+    idl: &[u8],
     program_name: &Name,
-    program: &Text,
+    program: &[u8],
 ) -> Result<Checked, Refusal>
     ensures ends { JudgedOnly result }
-    ensures says { (i p : Option (List ℕ)) → IsTextOf i idl.now → IsTextOf p program.now
-        → BothOf i p idl_name.now program_name.now result }
+    ensures says { BothOf (Some idl.now) (Some program.now) idl_name.now program_name.now result }
 {
     let idl = match interface_of(alloc, idl, idl_name) {
         Ok(idl) => idl,
@@ -146,65 +147,4 @@ pub(crate) fn checked(
         }
         Err(CheckErr::NoMemory) => Err(Refusal::Memory),
     }
-}
-
-/// The worker of a list; `None` exactly where the text isn't in the list's form.
-pub(crate) fn worker_of(alloc: Global, text: &Text) -> Result<Option<Worker>, NoMemory>
-    ensures { IfOk result (λ o. (file : Option (List ℕ)) → IsTextOf file text.now
-        → WorkerOf file o) }
-{
-    match text {
-        Text::Long => Ok(None),
-        Text::Read { bytes } => read_worker(alloc, bytes.bytes()),
-    }
-}
-
-/// The three texts of a run, each of which is present.
-#[derive(Drop)]
-pub(crate) struct Texts {
-    pub idl: Text,
-    pub program: Text,
-    pub workers: Text,
-}
-
-/// Reads the three texts. `NoText` exactly where one is absent, with the first in the order IDL,
-/// program, worker list.
-pub(crate) fn read_texts<D: Disk>(
-    alloc: Global,
-    disk: &mut D,
-    words: &Words,
-) -> Result<Texts, Refusal>
-    ensures same { D.tells → (D.state disk.new).folder ≡ (D.state disk.old).folder }
-    ensures images { D.tells → Passes Same (D.state disk.old) (D.state disk.new) }
-    ensures rise { (D.state disk.old).faults ≤ (D.state disk.new).faults }
-    ensures ends { TextsEnd (D.state disk.old).faults (D.state disk.new).faults result }
-    ensures told { D.tells → TextsTold (D.state disk.old).folder
-        words.now.idl words.now.program words.now.workers result }
-{
-    let idl = match read_text(alloc, disk, &words.idl) {
-        Ok(text) => text,
-        Err(stop) => return Err(stop),
-    };
-    let program = match read_text(alloc, disk, &words.program) {
-        Ok(text) => text,
-        Err(stop) => return Err(stop),
-    };
-    let workers = match read_text(alloc, disk, &words.workers) {
-        Ok(text) => text,
-        Err(stop) => return Err(stop),
-    };
-    let Some(idl) = idl else {
-        return Err(no_text(&words.idl));
-    };
-    let Some(program) = program else {
-        return Err(no_text(&words.program));
-    };
-    let Some(workers) = workers else {
-        return Err(no_text(&words.workers));
-    };
-    Ok(Texts {
-        idl,
-        program,
-        workers,
-    })
 }

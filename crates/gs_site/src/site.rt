@@ -4,6 +4,8 @@ ghost use Rattle.std.specs.Borrow.{sem};
 ghost use Rattle.gs_types.specs.History.{History};
 ghost use Rattle.gs_site.specs.Link.{IsIdle, IsBusy, HasStarted, TellsStart, HasEnded, TellsEnd, EndsByLaw, Abandons};
 ghost use Rattle.gs_site.specs.Lending.{lends_disk};
+ghost use Rattle.gs_disk.specs.Moments.{EachNow};
+ghost use Rattle.gs_site.specs.Recorded.{HasDone, LacksDone, Recorded};
 ghost use Rattle.gs_site.specs.Site.{disk_of, link_of, mark_of, marks_of};
 
 use crate::marks::{Marks, set_mark};
@@ -73,10 +75,12 @@ impl<D: Disk, K: Link> Site<D, K> {
         set_mark(&mut self.marks, self.mark);
     }
 
-    /// Starts a task that isn't in flight on the link. `Failed` only where the link's count of
-    /// faults rose. After `NoMemory` nothing has changed.
+    /// Starts a task that isn't in flight on the link, and that no image's entries say is done.
+    /// `Failed` only where the link's count of faults rose. After `NoMemory` nothing has changed.
     pub fn start(&mut self, alloc: Global, job: &Job) -> Result<(), StartErr>
         requires idle { K.jobs (link_of self.old) job.now.n ≡ None }
+        requires not_done { D.tells
+            → EachNow (LacksDone job.now.n) (D.state (disk_of self.old)) }
         ensures disk { disk_of self.new ≡ disk_of self.old }
         ensures mark { mark_of self.new ≡ mark_of self.old }
         ensures marks { marks_of self.new ≡ marks_of self.old }
@@ -88,10 +92,13 @@ impl<D: Disk, K: Link> Site<D, K> {
         self.link.start(alloc, job)
     }
 
-    /// Waits for the end of a task in flight. `Failed` only where the link's count of faults rose.
-    /// After want of memory nothing has changed.
+    /// Waits for the end of a task in flight. Each task that finished since the mark is done by the
+    /// entries of each image. `Failed` only where the link's count of faults rose. After want of
+    /// memory nothing has changed.
     pub fn next(&mut self, alloc: Global) -> Result<Event, NoMemory>
         requires busy { IsBusy (K.jobs (link_of self.old)) }
+        requires recorded { D.tells → Recorded K.tells (link_of self.old) (mark_of self.old)
+            (λ n. EachNow (HasDone n) (D.state (disk_of self.old))) }
         ensures disk { disk_of self.new ≡ disk_of self.old }
         ensures mark { mark_of self.new ≡ mark_of self.old }
         ensures marks { marks_of self.new ≡ marks_of self.old }

@@ -6,3 +6,4 @@ pub mod Lookups
 pub mod Choices
 pub mod Behind
 pub mod OneReading
+pub mod Limits

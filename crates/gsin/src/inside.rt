@@ -2,11 +2,8 @@
 ghost use Rattle.std.specs.Prelude.{◌≡◌, ◌⊎◌, ◌++◌, ℕ, List, map, Result};
 ghost use Rattle.std.specs.String.{string_bytes};
 ghost use Rattle.gs_types.specs.Counts.{Rises};
-ghost use Rattle.gs_idl.specs.Interface.{Interface};
-ghost use Rattle.gs_tree.specs.Program.{Program};
-ghost use Rattle.gs_form.specs.declared.worker.Worker.{Worker};
-ghost use Rattle.gs_talk.specs.declared.question.Question as question;
-ghost use Rattle.gs_talk.specs.Seq.{EndsIn};
+ghost use Rattle.gs_types.specs.History.{History};
+ghost use Rattle.gs_life.specs.Origin.{Origin};
 ghost use Rattle.gs_site.specs.Link.{IsIdle};
 ghost use Rattle.gs_site.specs.Site.{disk_of, link_of};
 ghost use Rattle.gs_filters.specs.Filters.{filters};
@@ -21,8 +18,7 @@ ghost use Rattle.gs_verbs.specs.Planning.{HasPlan};
 ghost use Rattle.gs_run.specs.Asked.{Wish, IsNoRun, IsNothing};
 ghost use Rattle.gs_run.specs.Checking.{HoldsBoth};
 ghost use Rattle.gs_run.specs.Did.{Did};
-ghost use Rattle.gs_run.specs.Ran.{run_in, IsStatusOf};
-ghost use Rattle.gs_run.specs.Served.{Served};
+ghost use Rattle.gs_run.specs.Ran.{Begins, IsComplete};
 ghost use Rattle.gs_run.specs.Stop.{status_of, message_of};
 ghost use Rattle.gs_run.specs.declared.stop.Stop.{Stop};
 
@@ -35,10 +31,7 @@ use std::alloc::Global;
 
 /// `gs` over built-in operations, on a site with no job in flight, which it leaves with none: its
 /// words, statuses, lines and promises (`did`, `checks`, `reports`, `cleans`, `plans`), under the law
-/// of the operations. Where the
-/// sequential run under that law ends, and neither the disk's nor the output's count of faults
-/// rises, the status is that of its end: 0, 7 for a fault of the program, 8 where the fuel ran out;
-/// or 12, for want of memory. Nothing is assumed of commands.
+/// of the operations. Nothing is assumed of commands.
 pub fn gs_inside<D: Disk, O: Sink, E: Sink>(
     alloc: Global,
     words: &Vec<String>,
@@ -59,17 +52,17 @@ pub fn gs_inside<D: Disk, O: Sink, E: Sink>(
         × (IsNoRun wish → link_of site.new ≡ link_of site.old)
         × (IsNothing wish → (disk_of site.new ≡ disk_of site.old) × (out.new ≡ out.old)) }
 
-    // A run that ends, and no fault of disk and output: its status, or want of memory.
+    // A run whose folder stands for it, and no fault: where results are there 0, and where it may
+    // begin or go on the status of the sequential run's end; or want of memory.
     ensures complete { D.tells → (idl program workers : List ℕ) (settings : Settings)
         → IsRun (map string_bytes words.now.items) idl program workers settings
-        → (i : Interface) (p : Program) (worker : Worker)
-        → Served (D.state (disk_of site.old)).folder idl program workers i p worker
-        → (k : ℕ) (q : question.Question)
-        → EndsIn (run_in settings.fuel idl program i p filters
-        (D.state (disk_of site.old)).folder) k q
+        → (o : Origin) (past : History)
+        → Begins o idl program filters (IsTold (link_of site.old)) past
+        (D.state (disk_of site.old))
         → (Rises (D.state (disk_of site.old)).faults (D.state (disk_of site.new)).faults → ⊥)
+        → (Rises (faults_of (link_of site.old)) (faults_of (link_of site.new)) → ⊥)
         → (Rises (O.faults out.old) (O.faults out.new) → ⊥)
-        → IsStatusOf q result ⊎ (result ≡ 12) }
+        → IsComplete o settings.fuel (D.state (disk_of site.old)).folder idl program workers result }
 
     // The same of a check.
     ensures checks { D.tells → (idl program : List ℕ)

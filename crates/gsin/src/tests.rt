@@ -93,5 +93,7 @@ fn sums_lines_or_loses_the_task(rt: HostRuntime) -> Result<(), Fail> {
     assert_eq!(rt; lost.status, 9);
     assert_eq!(rt; lost.err.bytes(), b"gs: task lost: 1\n".as_slice());
     assert!(rt; lost.out.bytes().is_empty());
+    // three starts, and a failure of each
+    assert_eq!(rt; lost.events, 6);
     Ok(())
 }

@@ -1,8 +1,10 @@
 use Rattle.std.proofs.Common.{◌≡◌, ◌⊎◌, ℕ, map, sym, subst}
 use Rattle.std.specs.String.{string_bytes}
-use Rattle.gs_run.specs.Ran.{IsStatusOf}
+use Rattle.gs_site.specs.Site.{disk_of}
+use Rattle.gs_run.specs.Ran.{IsComplete}
 use Rattle.gs_run.proofs.Checks.{checks_so}
-use Rattle.gs_run.proofs.Conclusions.{ends_so, did_run, did_check, did_report, did_clean, did_plan}
+use Rattle.gs_run.proofs.Completing.{complete}
+use Rattle.gs_run.proofs.Wishes.{did_run, did_check, did_report, did_clean, did_plan}
 use Rattle.gs_run.proofs.Serving.{has_slots, report_so, clean_so, plan_so}
 use Rattle.gs_run.proofs.run.gs.Goals as goal
 
@@ -25,13 +27,16 @@ returns-clause-did g c = (
 
 pub returns-clause-complete : goal.returns-clause-complete
 returns-clause-complete g c =
-    λ told idl program workers settings run i p worker served k z ends past h disk link out.
-    subst (λ (n : ℕ). IsStatusOf z n ⊎ (n ≡ 12)) (sym c.report.ensures.status)
-    (ends_so settings.fuel _ _ _ _ _ _ _ _ _ _ _ _ _ idl program workers c.serve-answer.result
+    λ told idl program workers settings run o past begins disk link out.
+    subst (λ (n : ℕ). IsComplete o settings.fuel
+    (g.D.Disk.state (disk_of c.args.site.now)).folder idl program workers n)
+    (sym c.report.ensures.status)
+    (complete o settings _ _ _ _ _ _ _ _ _ _ _ _ _ idl program workers past c.serve-answer.result
+    begins
     (did_run _ _ _ _ _ _ _ _ _ _ _ _ _ (map string_bytes c.args.words.now.items)
     c.read-command.result idl program workers settings c.serve-answer.result
     c.read-command.ensures run c.serve-answer.ensures.did)
-    told i p worker served k z ends past h disk link out)
+    (g.met.D.Disk.reads_an_image told (disk_of c.args.site.now)) told disk link out)
 
 pub returns-clause-checks : goal.returns-clause-checks
 returns-clause-checks g c = λ told idl program check holds disk out.

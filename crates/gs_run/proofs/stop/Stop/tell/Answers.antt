@@ -4,10 +4,10 @@ use Rattle.gs_run.specs.Stop.{line_of}
 use Rattle.gs_run.proofs.Answering.{parts_line, whole_line}
 use Rattle.gs_run.proofs.stop.Stop.tell.Goals as goal
 
-pub returns-in-Lost-clause-all : goal.returns-in-Lost-clause-all
-returns-in-Lost-clause-all g c = λ told. parts_line c.tell_parts-in-Lost.result _ _
-    (codes "gs: task lost: ") _ _ (10 ∷ []) _ (c.as_bytes-in-Lost.ensures.value
-    ∙ c.format-in-Lost.ensures.text) (ap line_of c.in-Lost.is) (c.tell_parts-in-Lost.ensures.all
+pub returns-in-TaskLost-clause-all : goal.returns-in-TaskLost-clause-all
+returns-in-TaskLost-clause-all g c = λ told. parts_line c.tell_parts-in-TaskLost.result _ _
+    (codes "gs: task lost: ") _ _ (10 ∷ []) _ (c.as_bytes-in-TaskLost.ensures.value
+    ∙ c.format-in-TaskLost.ensures.text) (ap line_of c.in-TaskLost.is) (c.tell_parts-in-TaskLost.ensures.all
     told)
 
 pub returns-in-Disk-clause-all : goal.returns-in-Disk-clause-all

@@ -1,4 +1,0 @@
-pub mod Format
-pub mod Forms
-pub mod Gives
-pub mod Worker

@@ -1,0 +1,4 @@
+//! No run writes the files that its own texts stand in.
+#![tactic(auto)]
+
+pub mod laws;
