@@ -53,6 +53,7 @@ module _ {K : Type 0} {tells : K → History → Type 0} where
     always = went.always;
     history = went.history;
     told = went.told;
+    are = went.are;
     good = went.good;
     whole = λ cut. went.goes_on;
     recorded = went.recorded;
@@ -76,6 +77,7 @@ module _ {K : Type 0} {tells : K → History → Type 0} where
         always = went.always;
         history = abandoned ∷ went.history;
         told = gone.1 (went.history ++ call.past) went.told;
+        are = went.are;
         good = (went.good, went.goes_on);
         whole = λ other. absurd (other cut);
         recorded = went.recorded;
@@ -90,6 +92,7 @@ module _ {K : Type 0} {tells : K → History → Type 0} where
     always = went.always;
     history = went.history;
     told = none.1 (went.history ++ call.past) went.told;
+    are = went.are;
     good = went.good;
     whole = λ cut. went.goes_on;
     recorded = went.recorded;

@@ -123,6 +123,7 @@ module _ {D K : Type 0} {state : D → DiskState} {tells : K → History → Typ
         subst (λ (xs : List Noting). AreNoted s xs events.0) (sym given.notes_are) events.1.are in
         let stands : CoreStands core s 0 events.0 = made s events.0 given noted in (
           events.0,
+          noted,
           record {
             stands = stands;
             told = en.told;

@@ -102,6 +102,7 @@ begin_went {K = K} {state = state} {tells = tells} T parts es d d_new link link_
         always = stands call.origin enters.texts_are for;
         history = [];
         told = subst (λ (l : K). tells l call.past) (sym same) enters.told;
+        are = are;
         good = noted_good call.setup events.0 are on;
         goes_on = on;
         recorded = λ n is.
@@ -132,7 +133,7 @@ module _ {D K : Type 0} {state : D → DiskState} {tells : K → History → Typ
       enters costs =
       let start = begun call enters in
       let c : Course = course_of call start.0 in
-      let a = goes c 0 [] start.1 costs in
+      let a = goes c 0 [] start.2 costs in
       let s = a.1.0 in (
         start.0,
         record {
@@ -141,10 +142,11 @@ module _ {D K : Type 0} {state : D → DiskState} {tells : K → History → Typ
               (stands call.origin enters.texts_are enters.stands) a.0);
           history = s.history;
           told = subst (λ (l : K). tells l (s.history ++ call.past)) link_is s.told;
+          are = start.1;
           good = s.good;
           goes_on = s.goes_on;
-          recorded = λ n is. start.1.noted n
-              (done_among call.origin.stood two.store.entries n start.1.running.are.goes_on is);
+          recorded = λ n is. start.2.noted n
+              (done_among call.origin.stood two.store.entries n start.2.running.are.goes_on is);
           shows = halt_shows T call.setup (s.history ++ start.0) e a.1.1;
           kept = λ whole. absurd (whole (halt_cut e));
           running = λ is. absurd (halt_fruitless T e is);
@@ -173,7 +175,7 @@ module _ {D K : Type 0} {state : D → DiskState} {tells : K → History → Typ
       call enters costs =
       let start = begun call enters in
       let c : Course = course_of call start.0 in
-      let a = goes c 0 [] start.1 costs in
+      let a = goes c 0 [] start.2 costs in
       let at = a.1 in
       let ends = concludes c at.questions at.history at.joined at.holds.0 in (
         start.0,
@@ -183,10 +185,11 @@ module _ {D K : Type 0} {state : D → DiskState} {tells : K → History → Typ
               (stands call.origin enters.texts_are enters.stands) a.0) ends.always;
           history = at.history;
           told = subst (λ (l : K). tells l (at.history ++ call.past)) (sym link_is) at.joined.told;
+          are = start.1;
           good = at.joined.stands.bears.tables.good;
           goes_on = at.joined.goes_on;
-          recorded = λ n is. start.1.noted n
-              (done_among call.origin.stood two.store.entries n start.1.running.are.goes_on is);
+          recorded = λ n is. start.2.noted n
+              (done_among call.origin.stood two.store.entries n start.2.running.are.goes_on is);
           shows = ends.shows;
           kept = ends.kept;
           running = ends.running;

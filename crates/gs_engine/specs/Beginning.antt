@@ -9,6 +9,7 @@ use Rattle.gs_entries.specs.declared.entry.Texts.{Texts}
 use Rattle.gs_broker.specs.declared.broker.Broker.{Broker}
 use Rattle.gs_main.specs.Talking.{Talking}
 use Rattle.gs_history.specs.Setup.{Setup}
+use Rattle.gs_history.specs.Notes.{AreNoted}
 use Rattle.gs_tables.specs.declared.noted.DoneNote.{DoneNote}
 use Rattle.gs_core.specs.Beginning.{IsGiven}
 use Rattle.gs_site.specs.Link.{Flying}
@@ -76,8 +77,9 @@ pub record Enters {D K : Type 0} (state : D → DiskState) (tells : K → Histor
   pub law_is : law link ≡ call.origin.law
   pub told : tells link call.past
 
--- all is joined before the first question and the first event
+-- what the entries note comes first, and all is joined before the first question and the first event
 abbrev pub Begun : {D K : Type 0} → (D → DiskState) → (K → History → Type 0) → (K → Flying)
     → (K → Meaning) → Call → Moment D K → Type 0
 Begun state tells jobs law call at =
-    (noted : History) × Joined state tells jobs law (course_of call noted) at 0 []
+    (noted : History) × AreNoted call.setup call.setup.notes noted
+    × Joined state tells jobs law (course_of call noted) at 0 []

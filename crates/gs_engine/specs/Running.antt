@@ -13,6 +13,7 @@ use Rattle.gs_store.specs.State.{StoreState}
 use Rattle.gs_store.specs.Versions.{len_of}
 use Rattle.gs_history.specs.Good.{Good, GoesOn, IsQuiet}
 use Rattle.gs_history.specs.Setup.{Setup}
+use Rattle.gs_history.specs.Notes.{AreNoted}
 use Rattle.gs_core.specs.Core.{IsVerdict}
 use Rattle.gs_core.specs.declared.verdict.Verdict.{Verdict}
 use Rattle.gs_core.specs.declared.verdict.Verdict.TheVariants as verdict
@@ -154,13 +155,14 @@ pub record Concludes {T : Type 0} (c : Course) (h : History) (old new : DiskStat
   pub running : IsFruitless result → EachNow (StandsRunning c.origin) new
   pub closed : OnOk result (EachNow (StandsClosed c.origin) new)
 
--- the same of a call, whose history is as it should be, and goes on. Each task that is recorded as
--- the call begins is among those that were recorded, and no record is bad
+-- the same of a call, whose history, behind what the entries note, is as it should be, and goes on.
+-- Each task that is recorded as the call begins is among those that are noted, and no record is bad
 pub record Went {K T : Type 0} (tells : K → History → Type 0) (call : Call) (old new : DiskState)
     (link : K) (noted : History) (result : Result T RunFault) : Type 0 where
   pub always : Always (Stands call.origin) old new
   pub history : History
   pub told : tells link (history ++ call.past)
+  pub are : AreNoted call.setup call.setup.notes noted
   pub good : Good call.setup (history ++ noted)
   pub goes_on : GoesOn (history ++ noted)
   pub recorded : (n : ℕ) → has_done call.origin.stood n ≡ true → IsSome (outs_in noted n)
@@ -171,7 +173,7 @@ pub record Went {K T : Type 0} (tells : K → History → Type 0) (call : Call) 
   pub closed : OnOk result (EachNow (StandsClosed call.origin) new)
 
 -- each image stands at every moment of the call. The link tells a history more, which is as it
--- should be after what was recorded; the jobs in flight were given up at its end, if at all, where
+-- should be behind what the entries note; the jobs in flight were given up at its end, if at all, where
 -- the run was cut short. Each task that is recorded as the call begins is among those that were
 -- recorded; and unless the run was cut short, each that has finished is recorded in each image at its
 -- end. The answer is shown, and no record is bad. Where it is Ok, the user's files are those that the
@@ -181,6 +183,7 @@ pub record Ran {K T : Type 0} (tells : K → History → Type 0) (call : Call) (
   pub always : Always (Stands call.origin) old new
   pub history : History
   pub told : tells link (history ++ call.past)
+  pub are : AreNoted call.setup call.setup.notes noted
   pub good : Good call.setup (history ++ noted)
   pub whole : (IsCutShort result → ⊥) → GoesOn (history ++ noted)
   pub recorded : (n : ℕ) → has_done call.origin.stood n ≡ true → IsSome (outs_in noted n)

@@ -1,5 +1,5 @@
 -- What the calls of a link over built-in operations do.
-use Rattle.std.proofs.Common.{◌≡◌, sym, subst, refl, ◌∙◌, [], length, Result, Ok, Err, IfOk, OnOk}
+use Rattle.std.proofs.Common.{◌≡◌, ap, sym, subst, refl, ◌∙◌, [], length, Result, Ok, Err, IfOk, OnOk}
 use Rattle.std.proofs.Math.Logic.{∥∥₁_map}
 use Rattle.gs_types.specs.declared.job.Job.{Job}
 use Rattle.gs_types.specs.declared.memory.NoMemory.{NoMemory}
@@ -8,8 +8,8 @@ use Rattle.gs_site.specs.Memory as mem
 use Rattle.gs_site.specs.declared.link.Event.{Event}
 use Rattle.gs_site.specs.declared.link.StartErr.{StartErr}
 use Rattle.gs_filters.specs.Filters.{filters}
-use Rattle.gs_filters.specs.Inside.{TakesJob, EndsFirst, LetsGo, FailuresAreLawful}
-use Rattle.gs_filters.specs.Lawful.{IsLawful}
+use Rattle.gs_filters.specs.Inside.{TakesJob, EndsFirst, LetsGo, FailuresAreCounted, FailuresAreLawful}
+use Rattle.gs_filters.specs.Lawful.{IsLawful, failures_in}
 use Rattle.gs_filters.specs.declared.inside.InsideLink.{InsideLink}
 use Rattle.gs_filters.proofs.Insides.{after, picks_first, ends_first, left_told}
 
@@ -47,3 +47,7 @@ lets_go old new either none count = record {
 -- what the link tells is lawful
 pub told_lawful : FailuresAreLawful
 told_lawful l h told = ∥∥₁_map l.together (λ is. subst IsLawful (sym told) is.lawful)
+
+-- and its failures are counted
+pub told_counted : FailuresAreCounted
+told_counted l h told = ∥∥₁_map l.together (λ is. is.count ∙ ap failures_in (sym told))

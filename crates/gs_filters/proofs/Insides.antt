@@ -3,6 +3,7 @@ use Rattle.std.proofs.Common.{◌≡◌, ◌⊎◌, ℕ, ◌<◌, Bool, true, re
 use Rattle.std.specs.Prelude.{◌%◌, ◌==◌, slice_get, drop}
 use Rattle.std.proofs.lemmas.Grind.{merely}
 use Rattle.std.proofs.Math.Logic.{∥∥₁_map}
+use Rattle.gs_types.specs.Counts.{up}
 use Rattle.gs_types.specs.History.{History, started, abandoned}
 use Rattle.gs_types.specs.declared.job.Job.{Job}
 use Rattle.gs_types.specs.declared.memory.NoMemory.{NoMemory}
@@ -20,7 +21,7 @@ use Rattle.gs_site.specs.declared.link.Event.TheVariants.{Finished, Failed}
 use Rattle.gs_site.specs.declared.link.StartErr.{StartErr}
 use Rattle.gs_site.specs.declared.memory.MemLink.{MemLink}
 use Rattle.gs_filters.specs.Filters.{filters}
-use Rattle.gs_filters.specs.Lawful.{job_in, IsLawful, IsTogether}
+use Rattle.gs_filters.specs.Lawful.{job_in, IsLawful, failures_in, IsTogether}
 use Rattle.gs_filters.specs.Inside.{Ends}
 use Rattle.gs_filters.specs.declared.filters.FilterLaw.{FilterLaw}
 
@@ -35,13 +36,15 @@ pub started_told : (old new : Under) (job : Job) → TellsStart mem.IsTold old n
 started_told old new job told = sym (told old.desk.told refl)
 
 push_together : (old new : Under) (job : Job) → job_at (started_jobs old) job.n ≡ None →
-    started_jobs new ≡ started_jobs old ++ job ∷ [] → new.desk.told ≡ started job.n job.worker job ∷
+    started_jobs new ≡ started_jobs old ++ job ∷ [] → mem.faults_of new ≡ mem.faults_of old
+    → new.desk.told ≡ started job.n job.worker job ∷
     old.desk.told → IsTogether old → IsTogether new
-push_together old new job idle jobs told is = record {
+push_together old new job idle jobs same told is = record {
   flying = λ n. ap (λ (js : List Job). job_at js n) jobs ∙ job_push (started_jobs old) job n idle
       ∙ ap (λ (o : Option Job). if job.n == n then Some job else o) (is.flying n)
       ∙ ap (λ (h : History). job_in h n) (sym told);
   lawful = subst IsLawful (sym told) is.lawful;
+  count = same ∙ is.count ∙ ap failures_in (sym told);
 }
 
 same_together : (old new : Under) → new ≡ old → ∥ IsTogether old ∥₁ → ∥ IsTogether new ∥₁
@@ -51,7 +54,7 @@ pub started_together : (old new : Under) (job : Job) (r : Result (Unit {0}) Star
     (started_jobs old) job.n ≡ None → TellsStart mem.IsTold old new job r → OnOk r (mem.TakesJob old
     new job) → OnErr r (new ≡ old) → ∥ IsTogether old ∥₁ → ∥ IsTogether new ∥₁
 started_together old new job (Ok done) idle told takes same is = ∥∥₁_map is (push_together old new
-    job idle takes.jobs (sym (told old.desk.told refl)))
+    job idle takes.jobs takes.count (sym (told old.desk.told refl)))
 started_together old new job (Err e) idle told takes same is = same_together old new same is
 
 pub started_script : (old new : Under) (job : Job) (r : Result (Unit {0}) StartErr) → OnOk r
@@ -120,6 +123,11 @@ ended_in : (e : Event) (h : History) (n : ℕ) → job_in (event_told e ∷ h) n
 ended_in (Finished m outs) h n = refl
 ended_in (Failed m) h n = refl
 
+ended_count : (e : Event) (h : History) (n : ℕ) → n ≡ failures_in h
+    → counted n e ≡ failures_in (event_told e ∷ h)
+ended_count (Finished m outs) h n is = is
+ended_count (Failed m) h n is = ap up is
+
 end_together : (old new : Under) (e : Event) → length (script_of old) ≡ 0 → TakesTurn filters old
     new e → new.desk.told ≡ event_told e ∷ old.desk.told → IsTogether old → IsTogether new
 end_together old new e none takes told is = record {
@@ -131,6 +139,8 @@ end_together old new e none takes told is = record {
   lawful = subst IsLawful (sym told) (lawful_end tt old e is
       (λ job there. ends job (turn_now (script_of old)).well e (ap (λ (t : Turn). t.well) (well_turn
       old none)) (takes.ends job there)));
+  count = takes.count ∙ ended_count e old.desk.told (mem.faults_of old) is.count
+      ∙ ap failures_in (sym told);
 }
 
 pub ended_together : (old new : Under) (r : Result Event NoMemory) → length (script_of old) ≡ 0 →
@@ -188,23 +198,34 @@ lawful_after : (js : List Job) (h : History) → IsLawful h → IsLawful (after_
 lawful_after [] h is = is
 lawful_after (x ∷ js) h is = is
 
-let_go : (old new : Under) → started_jobs new ≡ [] → new.desk.told ≡ after_abandon (started_jobs
+count_after : (js : List Job) (h : History) → failures_in h ≡ failures_in (after_abandon js h)
+count_after [] h = refl
+count_after (x ∷ js) h = refl
+
+let_go : (old new : Under) → started_jobs new ≡ [] → mem.faults_of new ≡ mem.faults_of old
+    → new.desk.told ≡ after_abandon (started_jobs
     old) old.desk.told → IsTogether old → IsTogether new
-let_go old new none told is = record {
+let_go old new none same told is = record {
   flying = λ n. ap (λ (js : List Job). job_at js n) none
       ∙ sym (idle_after (started_jobs old) old.desk.told n is.flying)
       ∙ ap (λ (h : History). job_in h n) (sym told);
   lawful = subst IsLawful (sym told) (lawful_after (started_jobs old) old.desk.told is.lawful);
+  count = same ∙ is.count ∙ count_after (started_jobs old) old.desk.told
+      ∙ ap failures_in (sym told);
 }
 
 pub left_together : (old new : Under) → Abandons mem.IsTold mem.jobs_of mem.faults_of old new →
-    started_jobs new ≡ [] → ∥ IsTogether old ∥₁ → ∥ IsTogether new ∥₁
-left_together old new either none is = ∥∥₁_map is (let_go old new none (left_told old new either))
+    started_jobs new ≡ [] → mem.faults_of new ≡ mem.faults_of old → ∥ IsTogether old ∥₁
+    → ∥ IsTogether new ∥₁
+left_together old new either none same is =
+    ∥∥₁_map is (let_go old new none same (left_told old new either))
 
 -- ---- a new link
 
-pub new_together : (l : Under) → started_jobs l ≡ [] → mem.IsTold l [] → ∥ IsTogether l ∥₁
-new_together l none told = merely (record {
+pub new_together : (l : Under) → started_jobs l ≡ [] → mem.IsTold l [] → mem.faults_of l ≡ 0
+    → ∥ IsTogether l ∥₁
+new_together l none told zero = merely (record {
   flying = λ n. ap (λ (js : List Job). job_at js n) none ∙ ap (λ (h : History). job_in h n) told;
   lawful = subst IsLawful told tt;
+  count = zero ∙ ap failures_in told;
 })

@@ -12,7 +12,7 @@ use Rattle.gs_site.specs.Past.{event_told}
 use Rattle.gs_site.specs.declared.link.Event.{Event}
 use Rattle.gs_site.specs.declared.link.Event.TheVariants.{Finished, Failed}
 use Rattle.gs_filters.specs.Filters.{filters}
-use Rattle.gs_filters.specs.Lawful.{GivesNone, IsLawful}
+use Rattle.gs_filters.specs.Lawful.{GivesNone, IsLawful, failures_in}
 use Rattle.gs_filters.specs.declared.filters.FilterLaw.{FilterLaw}
 use Rattle.gs_filters.specs.declared.inside.InsideLink.{InsideLink}
 
@@ -72,3 +72,8 @@ pub record EndsFirst (old new : InsideLink) (e : Event) : Type 0 where
 -- none
 abbrev pub FailuresAreLawful : Type 0
 FailuresAreLawful = (l : InsideLink) (h : History) → IsTold l h → ∥ IsLawful h ∥₁
+
+-- and the count is that of the failures that are told
+abbrev pub FailuresAreCounted : Type 0
+FailuresAreCounted = (l : InsideLink) (h : History) → IsTold l h
+    → ∥ faults_of l ≡ failures_in h ∥₁

@@ -200,6 +200,7 @@ course_stop : (o : Origin) (settings : Settings) (workers : List Entry) (es : Li
     → HasCourse {T = Unit} o settings workers es h (Err e)
 course_stop o settings workers es h e c = record {
   noted = c.noted;
+  are = c.are;
   good = c.good;
   whole = c.whole;
   recorded = c.recorded;
@@ -240,6 +241,7 @@ takes_ok o settings f i p w (Going t own plan) store h run of is (inr c) = inr (
     list_for o i p t plan (f w) run of is.2,
     record {
       noted = c.noted;
+      are = c.are;
       good = c.good;
       whole = c.whole;
       recorded = c.recorded;
@@ -259,6 +261,7 @@ takes_sink o settings es results file h (inr by) = let c = by.1.2 in inr (
     by.1.1,
     record {
       noted = c.noted;
+      are = c.are;
       good = c.good;
       whole = c.whole;
       recorded = c.recorded;

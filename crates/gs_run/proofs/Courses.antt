@@ -137,6 +137,7 @@ course : (o : Origin) (settings : Settings) (workers : List Entry) (es : List St
     (before history : History)
     → Always (Stands o) old new
     → tells (history ++ past)
+    → AreNoted (setup_for o settings workers es) (map noting_of (notes_in 0 es)) before
     → Good (setup_for o settings workers es) (history ++ before)
     → ((IsCutShort answer → ⊥)
     → GoesOn (history ++ before))
@@ -148,13 +149,14 @@ course : (o : Origin) (settings : Settings) (workers : List Entry) (es : List St
     → AtEnd answer
     (EachNow (StandsClosed o) new)
     → Stood o es past old new tells (RunsBy o settings workers es answer) answer
-course o settings workers es past old new tells answer before history always told good whole recorded
+course o settings workers es past old new tells answer before history always told are good whole recorded
     shows kept running closed = record {
       always = always;
       history = history;
       told = told;
       holds = inr (record {
         noted = before;
+        are = are;
         good = good;
         whole = whole;
         recorded = recorded;
@@ -179,7 +181,7 @@ pub stood_ran : {K : Type 0} (o : Origin) (settings : Settings) (workers : List 
 stood_ran o settings workers es past old new tells link before (Ok store) first fit ran =
     let s = setup_for o settings workers es in
     course o settings workers es past old new (tells link) (stops settings.fuel (Ok store)) before
-    ran.history (always_first o es old new first ran.always) ran.told ran.good ran.whole ran.recorded
+    ran.history (always_first o es old new first ran.always) ran.told ran.are ran.good ran.whole ran.recorded
     (ends_so s ran.shows.0 (ran.history ++ before) q.End fit ran.good ran.shows.1.1 ran.shows.1.2)
     ran.kept (λ is. each_running o es new first (ran.running is)) (each_closed o es new first ran.closed)
 stood_ran o settings workers es past old new tells link before
@@ -187,7 +189,7 @@ stood_ran o settings workers es past old new tells link before
     let s = setup_for o settings workers es in
     course o settings workers es past old new (tells link)
     (stops settings.fuel (Err (fault.Program line kind))) before
-    ran.history (always_first o es old new first ran.always) ran.told ran.good ran.whole ran.recorded
+    ran.history (always_first o es old new first ran.always) ran.told ran.are ran.good ran.whole ran.recorded
     (ends_so s ran.shows.0 (ran.history ++ before) (q.Fault line kind) fit ran.good ran.shows.1.1
     ran.shows.1.2)
     ran.kept (λ is. each_running o es new first (ran.running is)) tt
@@ -195,7 +197,7 @@ stood_ran o settings workers es past old new tells link before (Err fault.FuelOu
     let s = setup_for o settings workers es in
     course o settings workers es past old new (tells link)
     (stops settings.fuel (Err fault.FuelOut)) before
-    ran.history (always_first o es old new first ran.always) ran.told ran.good ran.whole ran.recorded
+    ran.history (always_first o es old new first ran.always) ran.told ran.are ran.good ran.whole ran.recorded
     (ends_so s ran.shows.0 (ran.history ++ before) q.FuelOut fit ran.good ran.shows.1.1
     ran.shows.1.2)
     ran.kept (λ is. each_running o es new first (ran.running is)) tt
@@ -203,14 +205,14 @@ stood_ran o settings workers es past old new tells link before (Err (fault.TaskL
     let s = setup_for o settings workers es in
     course o settings workers es past old new (tells link)
     (stops settings.fuel (Err (fault.TaskLost n))) before
-    ran.history (always_first o es old new first ran.always) ran.told ran.good ran.whole ran.recorded
+    ran.history (always_first o es old new first ran.always) ran.told ran.are ran.good ran.whole ran.recorded
     ran.shows.1.0
     ran.kept (λ is. each_running o es new first (ran.running is)) tt
 stood_ran o settings workers es past old new tells link before (Err (fault.WorkersLost n)) first fit ran =
     let s = setup_for o settings workers es in
     course o settings workers es past old new (tells link)
     (stops settings.fuel (Err (fault.WorkersLost n))) before
-    ran.history (always_first o es old new first ran.always) ran.told ran.good ran.whole ran.recorded
+    ran.history (always_first o es old new first ran.always) ran.told ran.are ran.good ran.whole ran.recorded
     ran.shows.1.0
     ran.kept (λ is. each_running o es new first (ran.running is)) tt
 stood_ran o settings workers es past old new tells link before
@@ -223,13 +225,13 @@ stood_ran o settings workers es past old new tells link before (Err fault.Disk) 
     let s = setup_for o settings workers es in
     course o settings workers es past old new (tells link)
     (stops settings.fuel (Err fault.Disk)) before
-    ran.history (always_first o es old new first ran.always) ran.told ran.good ran.whole ran.recorded
+    ran.history (always_first o es old new first ran.always) ran.told ran.are ran.good ran.whole ran.recorded
     tt
     ran.kept (λ is. each_running o es new first (ran.running is)) tt
 stood_ran o settings workers es past old new tells link before (Err fault.NoMemory) first fit ran =
     let s = setup_for o settings workers es in
     course o settings workers es past old new (tells link)
     (stops settings.fuel (Err fault.NoMemory)) before
-    ran.history (always_first o es old new first ran.always) ran.told ran.good ran.whole ran.recorded
+    ran.history (always_first o es old new first ran.always) ran.told ran.are ran.good ran.whole ran.recorded
     tt
     ran.kept (λ is. each_running o es new first (ran.running is)) tt

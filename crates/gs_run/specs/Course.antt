@@ -21,6 +21,7 @@ use Rattle.gs_talk.specs.Talk.{State, Stop as Stopped}
 use Rattle.gs_talk.specs.Seq.{seq, EndsIn}
 use Rattle.gs_main.specs.Talking.{given_by}
 use Rattle.gs_history.specs.Setup.{Setup}
+use Rattle.gs_history.specs.Notes.{AreNoted}
 use Rattle.gs_history.specs.Good.{Good, GoesOn}
 use Rattle.gs_history.specs.Losses.{TaskLost, WorkersLost, NoLoss, IsLoss}
 use Rattle.gs_tables.specs.Noted.{noting_of}
@@ -126,11 +127,12 @@ Shows s h (Err e) = ShowsBy s h e
 
 -- the history, after what was recorded as the call began, is as it should be: each start is due and
 -- of the job of its task, and no ready task waits for a wait. Jobs in flight are given up at its end
--- alone, and only where the run is cut short. What these entries say of tasks that are done is where
--- it begins; and the answer is shown
+-- alone, and only where the run is cut short. It begins with what these entries say of tasks that
+-- are done, and nothing else; and the answer is shown
 pub record HasCourse {T : Type 0} (o : Origin) (settings : Settings) (workers : List Entry)
     (es : List Recorded) (history : History) (answer : Result T Stop) : Type 0 where
   pub noted : History
+  pub are : AreNoted (setup_for o settings workers es) (map noting_of (notes_in 0 es)) noted
   pub good : Good (setup_for o settings workers es) (history ++ noted)
   pub whole : (IsCutShort answer → ⊥) → GoesOn (history ++ noted)
   pub recorded : (n : ℕ) → has_done es n ≡ true → IsSome (outs_in noted n)

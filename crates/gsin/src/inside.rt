@@ -1,9 +1,11 @@
 // The top call over built-in operations.
-ghost use Rattle.std.specs.Prelude.{◌≡◌, ◌⊎◌, ◌++◌, ℕ, List, map, Result};
+ghost use Rattle.std.specs.Prelude.{◌≡◌, ◌⊎◌, ◌<◌, ◌-◌, ◌^◌, ◌++◌, ℕ, List, map, Result};
 ghost use Rattle.std.specs.String.{string_bytes};
 ghost use Rattle.gs_types.specs.Counts.{Rises};
 ghost use Rattle.gs_types.specs.History.{History};
-ghost use Rattle.gs_life.specs.Origin.{Origin};
+ghost use Rattle.gs_talk.specs.declared.question.Question.{Question};
+ghost use Rattle.gs_talk.specs.Seq.{EndsIn};
+ghost use Rattle.gs_life.specs.Origin.{Origin, run_of};
 ghost use Rattle.gs_site.specs.Link.{IsIdle};
 ghost use Rattle.gs_site.specs.Site.{disk_of, link_of};
 ghost use Rattle.gs_filters.specs.Filters.{filters};
@@ -30,8 +32,9 @@ use gs_types::Sink;
 use std::alloc::Global;
 
 /// `gs` over built-in operations, on a site with no job in flight, which it leaves with none: its
-/// words, statuses, lines and promises (`did`, `checks`, `reports`, `cleans`, `plans`), under the law
-/// of the operations. Nothing is assumed of commands.
+/// words, statuses, lines and promises (`did`, `complete`, `checks`, `reports`, `cleans`, `plans`),
+/// under the law of the operations. Nothing is assumed of commands, nor of the link where the
+/// sequential run ends (`inside`).
 pub fn gs_inside<D: Disk, O: Sink, E: Sink>(
     alloc: Global,
     words: &Vec<String>,
@@ -61,6 +64,19 @@ pub fn gs_inside<D: Disk, O: Sink, E: Sink>(
         (D.state (disk_of site.old))
         → (Rises (D.state (disk_of site.old)).faults (D.state (disk_of site.new)).faults → ⊥)
         → (Rises (faults_of (link_of site.old)) (faults_of (link_of site.new)) → ⊥)
+        → (Rises (O.faults out.old) (O.faults out.new) → ⊥)
+        → IsComplete o settings.fuel (D.state (disk_of site.old)).folder idl program workers result }
+
+    // The same where the sequential run ends, which then loses no task, with nothing asked of the
+    // link's count, but that it isn't at its greatest value.
+    ensures inside { D.tells → (idl program workers : List ℕ) (settings : Settings)
+        → IsRun (map string_bytes words.now.items) idl program workers settings
+        → (o : Origin) (past : History)
+        → Begins o idl program filters (IsTold (link_of site.old)) past
+        (D.state (disk_of site.old))
+        → (k : ℕ) (last : Question) → EndsIn (run_of o settings.fuel) k last
+        → faults_of (link_of site.old) < 2 ^ 64 - 1
+        → (Rises (D.state (disk_of site.old)).faults (D.state (disk_of site.new)).faults → ⊥)
         → (Rises (O.faults out.old) (O.faults out.new) → ⊥)
         → IsComplete o settings.fuel (D.state (disk_of site.old)).folder idl program workers result }
 

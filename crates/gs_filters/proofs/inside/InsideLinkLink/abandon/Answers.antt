@@ -9,7 +9,8 @@ invariant_of-self c =
     let did = c.abandon.ensures in
     record {
       unscripted = ap length did.script ∙ old.unscripted;
-      together = left_together old.link c.abandon.new.self did.abandons did.jobs old.together;
+      together = left_together old.link c.abandon.new.self did.abandons did.jobs
+          did.count old.together;
     }
 
 pub returns-clause-left : goal.returns-clause-left
