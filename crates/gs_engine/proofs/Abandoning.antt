@@ -1,13 +1,12 @@
 -- What is left in flight is given up.
 use Rattle.std.proofs.Common.{◌≡◌, ℕ, ◌≤◌, ◌++◌, ◌∷◌, true, IsSome, is_some, Option, None, Result, Ok, Err, refl, sym, ap, subst, ◌∙◌, inl, inr, ⊎_elim}
-use Rattle.std.specs.Prelude.{◌⊎◌}
 use Rattle.gs_types.specs.Counts.{Caused}
 use Rattle.gs_types.specs.History.{History, abandoned}
 use Rattle.gs_disk.specs.Folder.{DiskState}
 use Rattle.gs_site.specs.Link.{Flying, IsIdle, IsBusy, Abandons}
 use Rattle.gs_history.specs.Setup.{Setup}
 use Rattle.gs_engine.specs.Beginning.{Call}
-use Rattle.gs_engine.specs.Running.{IsCut, IsCutShort, IsDiskFault, IsGivenUp, RunCaused, Shows, Went, Ran}
+use Rattle.gs_engine.specs.Running.{IsCut, IsCutShort, IsDiskFault, RunCaused, Shows, Went, Ran}
 use Rattle.gs_engine.specs.declared.running.RunFault.{RunFault}
 use Rattle.gs_engine.specs.declared.running.RunFault.TheVariants as fault
 use Rattle.gs_engine.proofs.Concluding.{failing}

@@ -1,7 +1,7 @@
 -- How a run ends.
-use Rattle.std.proofs.Common.{◌≡◌, ℕ, ◌+◌, ◌≤◌, arith, ◌∙◌, ◌++◌, Bool, true, false, if◌then◌else◌, Result, Ok, Err, refl, sym, ap, subst}
-use Rattle.std.specs.Prelude.{IsErrOf, OnOk}
-use Rattle.gs_types.specs.Counts.{Rises, Caused}
+use Rattle.std.proofs.Common.{◌≡◌, ℕ, ◌++◌, Bool, true, false, if◌then◌else◌, Result, Ok, Err, refl, subst}
+use Rattle.std.specs.Prelude.{IsErrOf}
+use Rattle.gs_types.specs.Counts.{Caused}
 use Rattle.gs_types.specs.Job.{Meaning}
 use Rattle.gs_types.specs.History.{History}
 use Rattle.gs_disk.specs.Folder.{Folder, DiskState}
@@ -17,10 +17,9 @@ use Rattle.gs_finish.specs.Finishing.{IsNotLost}
 use Rattle.gs_finish.specs.declared.halt.Halt.{Halt}
 use Rattle.gs_finish.specs.declared.halt.Halt.TheVariants.{Disk, NoMemory, Lost}
 use Rattle.gs_life.specs.Called.{Closes}
-use Rattle.gs_life.specs.Origin.{Origin}
 use Rattle.gs_engine.specs.Joined.{Course, Moment, Joined}
 use Rattle.gs_engine.specs.Reading.{LacksLength}
-use Rattle.gs_engine.specs.Running.{IsCut, IsCutShort, IsDiskFault, IsFruitless, IsGivenUp, LacksLengthIn, Shows, Concludes, fault_of_halt}
+use Rattle.gs_engine.specs.Running.{IsCut, IsDiskFault, IsFruitless, IsGivenUp, LacksLengthIn, Shows, Concludes, fault_of_halt}
 use Rattle.gs_engine.specs.Sealing.{WhereEnded}
 use Rattle.gs_engine.specs.declared.running.RunFault.{RunFault}
 use Rattle.gs_engine.specs.declared.running.RunFault.TheVariants as fault

@@ -1,7 +1,7 @@
 -- Counts that don't fall.
 use Rattle.std.proofs.Common.{◌≡◌, ℕ, ◌+◌, ◌-◌, ◌≤◌, ◌^◌, arith, true, Bool, inl, inr, ⊎_elim}
 use Rattle.std.specs.Prelude.{◌⊎◌, min}
-use Rattle.gs_types.specs.Counts.{up, Rises, Caused}
+use Rattle.gs_types.specs.Counts.{Rises, Caused}
 
 least_up : (a b : ℕ) → a ≤ b → min (a + 1) (2 ^ 64 - 1) ≤ min (b + 1) (2 ^ 64 - 1)
 least_up a b le = grind (arith)

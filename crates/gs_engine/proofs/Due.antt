@@ -1,27 +1,21 @@
 -- A start that is due is of the task's job.
-use Rattle.std.proofs.Common.{◌≡◌, ℕ, ◌+◌, ◌≤◌, arith, List, [], ◌∷◌, ◌++◌, length, Option, Some, None, IsSome, true, refl, sym, ap, subst, ◌∙◌}
+use Rattle.std.proofs.Common.{◌≡◌, ℕ, ◌+◌, ◌≤◌, arith, List, ◌++◌, length, Some, refl, sym, ap, subst, ◌∙◌}
 use Rattle.std.specs.Prelude.{map}
 use Rattle.std.proofs.lemmas.List.{length-map}
 use Rattle.gs_types.specs.Job.{Meaning}
 use Rattle.gs_types.specs.History.{History}
 use Rattle.gs_types.specs.declared.job.Arg.{Arg}
 use Rattle.gs_types.specs.declared.job.Job.{Job}
-use Rattle.gs_types.specs.declared.note.Version.{Version}
 use Rattle.gs_idl.specs.Interface.{Signature, name_at}
 use Rattle.gs_disk.specs.Folder.{DiskState}
 use Rattle.gs_site.specs.Link.{Flying}
-use Rattle.gs_store.specs.Names.{version_name}
-use Rattle.gs_talk.specs.Seq.{Run, Known, Task}
-use Rattle.gs_talk_laws.specs.Versions.{version_value}
-use Rattle.gs_history.specs.Setup.{Setup, world_at}
-use Rattle.gs_history.specs.Good.{IsDue, IsStart}
+use Rattle.gs_history.specs.Setup.{world_at}
+use Rattle.gs_history.specs.Good.{IsDue}
 use Rattle.gs_tables.specs.Table.{mains_in}
-use Rattle.gs_tables.specs.Starts.{AreStartArgs}
-use Rattle.gs_main.specs.Shown.{talking}
 use Rattle.gs_core.specs.Stages.{ahead}
 use Rattle.gs_core.specs.declared.machine.Start.{Start}
 use Rattle.gs_engine.specs.Joined.{Course, Moment, Joined}
-use Rattle.gs_engine.specs.Reading.{IsOwn, VersionsStand, AreGiven}
+use Rattle.gs_engine.specs.Reading.{VersionsStand, AreGiven}
 use Rattle.gs_engine.specs.Starting.{IsJobFor, HasStart, IsDueNow}
 use Rattle.gs_engine.proofs.Values.{value_stands}
 

@@ -1,9 +1,8 @@
 -- The answer of a call that was stopped, or came to its end.
-use Rattle.std.proofs.Common.{◌≡◌, ◌≢◌, ℕ, ◌≤◌, true, false, Bool, IsSome, is_some, Option, Some, None, Result, Ok, Err, refl, sym, ap, subst, ◌∙◌, arith, inl, inr, ⊎_elim}
+use Rattle.std.proofs.Common.{◌≡◌, ℕ, ◌≤◌, true, false, Bool, is_some, Option, Some, None, Result, refl, sym, ap, subst, ◌∙◌, arith, inl, inr, ⊎_elim}
 use Rattle.std.specs.Prelude.{◌⊎◌, IsErrOf}
 use Rattle.gs_types.specs.Counts.{Rises, Caused}
 use Rattle.gs_disk.specs.Folder.{Folder}
-use Rattle.gs_site.specs.Link.{Flying, IsIdle}
 use Rattle.gs_core.specs.declared.verdict.Verdict.{Verdict}
 use Rattle.gs_finish.specs.declared.halt.Halt.{Halt}
 use Rattle.gs_finish.specs.declared.halt.Halt.TheVariants.{Disk}
@@ -11,7 +10,7 @@ use Rattle.gs_engine.specs.Reading.{LacksLength}
 use Rattle.gs_engine.specs.Running.{IsCut, IsCutShort, IsDiskFault, IsGivenUp, IsMisfitVerdict, LacksLengthIn, RunCaused, fault_of_halt}
 use Rattle.gs_engine.specs.declared.running.RunFault.{RunFault}
 use Rattle.gs_engine.proofs.Concluding.{failing, halted, halt_lacks, halt_cut, halt_blames, halt_disk}
-use Rattle.gs_engine.proofs.Counting.{caused_from, rises_from, rises_on}
+use Rattle.gs_engine.proofs.Counting.{caused_from}
 
 -- ---- it was stopped
 

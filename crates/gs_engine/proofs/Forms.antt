@@ -1,5 +1,5 @@
 -- What the sequential run has at a place of a start.
-use Rattle.std.proofs.Common.{◌≡◌, ℕ, Bool, true, false, List, refl, sym, ap, ◌∙◌}
+use Rattle.std.proofs.Common.{◌≡◌, ℕ, List, refl, sym, ap}
 use Rattle.gs_types.specs.History.{History}
 use Rattle.gs_types.specs.declared.job.Arg.{Arg}
 use Rattle.gs_types.specs.declared.job.Arg.TheVariants as arg

@@ -1,5 +1,5 @@
 -- A program that passed the checks passes something at each place of each operation that it calls.
-use Rattle.std.proofs.Common.{◌≡◌, ◌+◌, ◌++◌, ℕ, zero, suc, ℤ, pos, ◌-ℤ◌, Bool, true, false, not, refl, ap, ◌∙◌, List, [], ◌∷◌, length, Result, Ok, Err, Option, Some, None, arith, nat_lt, nat_le, if◌then◌else◌}
+use Rattle.std.proofs.Common.{◌≡◌, ◌++◌, ℕ, zero, suc, ℤ, pos, ◌-ℤ◌, Bool, true, false, not, refl, ap, ◌∙◌, List, [], ◌∷◌, length, Result, Ok, Err, Option, Some, None, arith, nat_lt, nat_le, if◌then◌else◌}
 use Rattle.std.specs.Prelude.{is_some, slice_get}
 use Rattle.std.specs.Bool.{⊤}
 use Rattle.std.specs.List.{list_any}

@@ -1,24 +1,20 @@
 -- A call, from its beginning to its end.
-use Rattle.std.proofs.Common.{◌≡◌, ℕ, zero, suc, ◌∙◌, ◌==◌, Bool, true, false, append_assoc, List, [], ◌∷◌, ◌++◌, IsSome, is_some, Result, Ok, Err, refl, sym, ap, subst, arith, All}
-use Rattle.std.specs.Prelude.{map}
+use Rattle.std.proofs.Common.{◌≡◌, ℕ, ◌∙◌, List, [], ◌∷◌, ◌++◌, Result, Ok, Err, sym, ap, subst, arith, All}
 use Rattle.gs_types.specs.Job.{Meaning}
-use Rattle.gs_types.specs.History.{History, noted, started, refused, finished, failed, abandoned, outs_in}
+use Rattle.gs_types.specs.History.{History, noted, started, refused, finished, failed, abandoned}
 use Rattle.gs_disk.specs.Folder.{Folder, DiskState}
 use Rattle.gs_disk.specs.Moments.{Always}
 use Rattle.gs_disk.specs.Going.{always_then}
-use Rattle.gs_entries.specs.Order.{stage_of, has_done}
+use Rattle.gs_entries.specs.Order.{stage_of}
 use Rattle.gs_entries.specs.declared.entry.Entry.{Entry}
-use Rattle.gs_entries.specs.declared.entry.Entry.TheVariants as made
 use Rattle.gs_entries.specs.declared.entry.Stage.{Stage}
 use Rattle.gs_entries.specs.declared.entry.Stage.TheVariants as stages
 use Rattle.gs_site.specs.Link.{Flying}
-use Rattle.gs_store.specs.State.{StoreState}
 use Rattle.gs_talk_laws.specs.Fuels.{IsPrefixOf}
 use Rattle.gs_policy.specs.Cost.{Cost}
 use Rattle.gs_history.specs.Good.{Good, GoesOn}
 use Rattle.gs_history.specs.Notes.{AreNoted, IsMisfit}
 use Rattle.gs_history.specs.Setup.{Noting, Setup}
-use Rattle.gs_tables.specs.Noted.{noting_of}
 use Rattle.gs_core.specs.Core.{IsVerdict}
 use Rattle.gs_core.specs.declared.verdict.Verdict.{Verdict}
 use Rattle.gs_finish.specs.Finishing.{IsNotLost}
@@ -26,13 +22,13 @@ use Rattle.gs_finish.specs.declared.halt.Halt.{Halt}
 use Rattle.gs_life.specs.Called.{StandsFor}
 use Rattle.gs_life.specs.Origin.{Origin}
 use Rattle.gs_life.specs.Stands.{IsRight, Stands, StandsAt}
-use Rattle.gs_engine.specs.Beginning.{Parts, Call, Enters, Begun, course_of, notes_in}
+use Rattle.gs_engine.specs.Beginning.{Parts, Call, Enters, Begun, course_of}
 use Rattle.gs_engine.specs.Joined.{Course, Moment, Joined, Goes}
 use Rattle.gs_engine.specs.Running.{HasRound, Shows, Concludes, Went, fault_of_halt}
 use Rattle.gs_engine.specs.Starting.{HasCosts}
 use Rattle.gs_engine.specs.declared.running.RunFault.{RunFault}
 use Rattle.gs_engine.specs.declared.running.RunFault.TheVariants as fault
-use Rattle.gs_engine.proofs.BeginningNotes.{AreEvents, events_of, noted_go_on}
+use Rattle.gs_engine.proofs.BeginningNotes.{events_of, noted_go_on}
 use Rattle.gs_engine.proofs.Concluding.{failing, halt_cut, halt_fruitless, halt_shows, halt_sound}
 use Rattle.gs_engine.proofs.Keeping.{done_among}
 

@@ -1,5 +1,5 @@
 -- What is read for a task, place by place.
-use Rattle.std.proofs.Common.{◌≡◌, ◌≢◌, ℕ, ◌+◌, ◌<◌, Bool, List, [], ◌∷◌, ◌++◌, length, take, get_or, zero, suc, Option, Some, refl, sym, ap, subst, ◌∙◌}
+use Rattle.std.proofs.Common.{◌≡◌, ℕ, ◌+◌, ◌<◌, Bool, List, [], ◌∷◌, ◌++◌, length, take, get_or, zero, suc, Some, refl, sym, ap, subst, ◌∙◌}
 use Rattle.std.specs.Prelude.{slice_get}
 use Rattle.std.proofs.lemmas.List.{take_more}
 use Rattle.std.proofs.lemmas.Option.{slice_get-get_or}
@@ -8,7 +8,7 @@ use Rattle.gs_types.specs.declared.job.Arg.{Arg}
 use Rattle.gs_types.specs.declared.note.Version.{Version}
 use Rattle.gs_disk.specs.Folder.{Folder}
 use Rattle.gs_talk.specs.Seq.{Files, World}
-use Rattle.gs_tables.specs.Starts.{IsStartArg, AreStartArgs}
+use Rattle.gs_tables.specs.Starts.{AreStartArgs}
 use Rattle.gs_tables.specs.declared.row.StartArg.{StartArg}
 use Rattle.gs_tables.specs.declared.row.StartArg.TheVariants as start
 use Rattle.gs_store.specs.Names.{version_name}

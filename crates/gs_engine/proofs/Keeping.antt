@@ -1,10 +1,10 @@
 -- What a run that is over has recorded.
 use Rattle.std.proofs.Common.{◌≡◌, ℕ, ◌==◌, ◌∙◌, Bool, append_assoc, List, [], ◌∷◌, ◌++◌, true, Ok, refl, sym, ap, subst}
-use Rattle.std.specs.Prelude.{IsSome, slice_index_or, ◌||◌}
+use Rattle.std.specs.Prelude.{slice_index_or, ◌||◌}
 use Rattle.std.specs.List.{list_any}
 use Rattle.std.proofs.lemmas.List.Folds.{list_any-append}
 use Rattle.gs_types.specs.Job.{Meaning}
-use Rattle.gs_types.specs.History.{History, outs_in}
+use Rattle.gs_types.specs.History.{History}
 use Rattle.gs_disk.specs.Folder.{Folder, DiskState}
 use Rattle.gs_disk.specs.Moments.{EachNow}
 use Rattle.gs_entries.specs.Order.{has_done, dones, done_by}

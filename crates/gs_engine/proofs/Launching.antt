@@ -16,10 +16,8 @@ use Rattle.gs_life.specs.Standing.{IsSteady}
 use Rattle.gs_life.specs.Stands.{IsRunning}
 use Rattle.gs_site.specs.Link.{Flying, SetsJob, SameJobs}
 use Rattle.gs_site.specs.Recorded.{HasFinish, TellsOne, TellsBefore, recorded_wider, recorded_more}
-use Rattle.gs_talk.specs.Seq.{Task, IsTask}
 use Rattle.gs_history.specs.Setup.{Setup}
 use Rattle.gs_history.specs.Good.{IsStart, IsRefused, GoesOn}
-use Rattle.gs_history.specs.Ready.{IsJob}
 use Rattle.gs_tables.specs.Table.{mains_in}
 use Rattle.gs_tables.specs.declared.tables.Tables.{Tables}
 use Rattle.gs_core.specs.Core.{Stands as CoreStands}
@@ -28,7 +26,7 @@ use Rattle.gs_core.specs.declared.machine.Core.{Core}
 use Rattle.gs_core.specs.declared.stage.Stage.{Stage}
 use Rattle.gs_core.specs.declared.stage.Stage.TheVariants as stage
 use Rattle.gs_finish.specs.declared.halt.Halt.TheVariants.{NoMemory}
-use Rattle.gs_engine.specs.Joined.{Course, Moment, Joined, IsOwnJob, Before, Goes}
+use Rattle.gs_engine.specs.Joined.{Course, Joined, IsOwnJob, Before, Goes}
 use Rattle.gs_engine.specs.Sane.{IsRecorded}
 use Rattle.gs_engine.specs.Starting.{HasStart}
 use Rattle.gs_engine.specs.Steps.{whatever}

@@ -2,6 +2,7 @@ pub mod Values
 pub mod Forms
 pub mod Inputs
 pub mod Due
+pub mod Users
 pub mod Settling
 pub mod Launching
 pub mod Standing

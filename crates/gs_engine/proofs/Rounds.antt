@@ -1,10 +1,10 @@
 -- Rounds, one after the other.
-use Rattle.std.proofs.Common.{◌≡◌, ◌≢◌, ℕ, ◌∙◌, ◌++◌, Bool, true, false, Option, Some, None, IsSome, is_some, Result, Ok, Err, refl, sym, ap, subst}
+use Rattle.std.proofs.Common.{◌≡◌, ◌≢◌, ℕ, ◌∙◌, ◌++◌, true, Option, Some, None, IsSome, is_some, Result, Ok, Err, refl, sym, subst}
 use Rattle.gs_types.specs.Job.{Meaning}
 use Rattle.gs_types.specs.History.{History}
 use Rattle.gs_disk.specs.Folder.{DiskState}
 use Rattle.gs_disk.specs.Going.{always_then}
-use Rattle.gs_site.specs.Link.{Flying, IsBusy}
+use Rattle.gs_site.specs.Link.{Flying}
 use Rattle.gs_policy.specs.Cost.{Cost}
 use Rattle.gs_history.specs.Setup.{Setup}
 use Rattle.gs_core.specs.Core.{Stands as CoreStands, IsVerdict}
@@ -12,7 +12,7 @@ use Rattle.gs_core.specs.declared.verdict.Verdict.{Verdict}
 use Rattle.gs_core.specs.declared.verdict.Verdict.TheVariants as verdict
 use Rattle.gs_finish.specs.declared.halt.Halt.{Halt}
 use Rattle.gs_life.specs.Stands.{Stands}
-use Rattle.gs_engine.specs.Joined.{Course, Moment, Joined, Before, Goes}
+use Rattle.gs_engine.specs.Joined.{Moment, Before, Goes}
 use Rattle.gs_engine.specs.Running.{HasRound, IsMisfitVerdict}
 use Rattle.gs_engine.specs.Starting.{HasCosts, IsStill}
 use Rattle.gs_engine.specs.Steps.{always, whatever}

@@ -21,7 +21,6 @@ use Rattle.gs_store.specs.declared.err.StoreErr.{StoreErr}
 use Rattle.gs_store.specs.declared.err.StoreErr.TheVariants as stores
 use Rattle.gs_talk.specs.Seq.{Run, Content, Known, Standing as SeqStanding, seq, step_by}
 use Rattle.gs_talk.specs.Talk.{Dialogue, Done, Ask, Stop}
-use Rattle.gs_talk.specs.declared.question.Question.{Question}
 use Rattle.gs_talk.specs.declared.question.Question.TheVariants as q
 use Rattle.gs_talk_laws.specs.Numbers.{at_number}
 use Rattle.gs_talk_laws.specs.Fuels.{IsClosed}
@@ -33,7 +32,7 @@ use Rattle.gs_history.specs.Setup.{Setup, world_at, rest_at}
 use Rattle.gs_history.specs.Frontier.{IsThere, MayGoOn}
 use Rattle.gs_looks.specs.Looked.{IsSeen}
 use Rattle.gs_looks.specs.declared.look.Seen.{Seen}
-use Rattle.gs_tables.specs.Table.{mains_in, looked_in}
+use Rattle.gs_tables.specs.Table.{mains_in}
 use Rattle.gs_tables.specs.Asked.{IsKept}
 use Rattle.gs_tables.specs.declared.tables.Tables.{Tables}
 use Rattle.gs_core.specs.Core.{Stands as CoreStands, Advances}

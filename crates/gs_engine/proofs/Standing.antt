@@ -1,14 +1,13 @@
 -- What is joined goes on where the disk reads the same.
-use Rattle.std.proofs.Common.{◌≡◌, ℕ, ◌+◌, ◌≤◌, List, ◌++◌, length, refl, sym, ap, subst, ◌∙◌, arith}
+use Rattle.std.proofs.Common.{◌≡◌, ℕ, ◌+◌, ◌≤◌, List, ◌++◌, length, sym, subst, arith}
 use Rattle.gs_types.specs.Job.{Meaning}
 use Rattle.gs_types.specs.History.{History}
 use Rattle.gs_idl.specs.Interface.{KeepRules}
 use Rattle.gs_disk.specs.Folder.{Folder, DiskState, Same}
-use Rattle.gs_disk.specs.Moments.{Leaves, EachNow, Passes, Always}
+use Rattle.gs_disk.specs.Moments.{EachNow, Passes, Always}
 use Rattle.gs_disk.specs.Going.{always_started, always_same}
 use Rattle.gs_entries.specs.declared.entry.Entry.{Entry}
 use Rattle.gs_store.specs.Keeps.{Keeps}
-use Rattle.gs_store.specs.State.{StoreState}
 use Rattle.gs_site.specs.Link.{Flying}
 use Rattle.gs_talk.specs.Seq.{Run}
 use Rattle.gs_history.specs.Setup.{Setup}
@@ -16,7 +15,6 @@ use Rattle.gs_tables.specs.Table.{mains_in}
 use Rattle.gs_core.specs.Core.{Stands as CoreStands}
 use Rattle.gs_core.specs.Stages.{ahead}
 use Rattle.gs_core.specs.declared.machine.Core.{Core}
-use Rattle.gs_life.specs.Origin.{Origin}
 use Rattle.gs_life.specs.Standing.{as_in, IsSteady}
 use Rattle.gs_life.specs.Stands.{IsRunning, Stands}
 use Rattle.gs_life.proofs.Images.{image_runs}

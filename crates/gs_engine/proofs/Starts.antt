@@ -1,5 +1,5 @@
 -- What is read for a start, and the start.
-use Rattle.std.proofs.Common.{◌≡◌, ℕ, zero, suc, ◌+◌, ◌≤◌, arith, List, [], ◌∷◌, ◌++◌, length, Option, Some, Result, Ok, Err, refl, sym, ap, subst, ◌∙◌}
+use Rattle.std.proofs.Common.{◌≡◌, ℕ, zero, suc, ◌+◌, ◌≤◌, arith, List, [], ◌∷◌, ◌++◌, length, Some, Result, Ok, Err, refl, sym, ap, subst, ◌∙◌}
 use Rattle.std.specs.Prelude.{option_map, slice_get, IfErr, IsErrOf}
 use Rattle.gs_types.specs.Counts.{Caused}
 use Rattle.gs_types.specs.Job.{Meaning}
@@ -12,18 +12,16 @@ use Rattle.gs_finish.specs.Finishing.{IsNotLost}
 use Rattle.gs_finish.specs.declared.halt.Halt.{Halt}
 use Rattle.gs_finish.specs.declared.halt.Halt.TheVariants.{Disk, NoMemory, Lost}
 use Rattle.gs_site.specs.Link.{Flying}
-use Rattle.gs_store.specs.Names.{version_name}
 use Rattle.gs_store.specs.State.{StoreState}
-use Rattle.gs_talk.specs.Seq.{Files, World, Known}
-use Rattle.gs_talk_laws.specs.Versions.{version_value}
-use Rattle.gs_history.specs.Setup.{Setup, world_at}
+use Rattle.gs_talk.specs.Seq.{Files, World}
+use Rattle.gs_history.specs.Setup.{world_at}
 use Rattle.gs_tables.specs.Starts.{IsFrom, AreStartArgs}
 use Rattle.gs_tables.specs.declared.row.StartArg.{StartArg}
 use Rattle.gs_tables.specs.declared.row.StartArg.TheVariants as start
 use Rattle.gs_core.specs.declared.machine.Core.{Core}
 use Rattle.gs_core.specs.declared.machine.Start.{Start}
-use Rattle.gs_engine.specs.Joined.{Course, Moment, Joined, Before, Goes}
-use Rattle.gs_engine.specs.Reading.{IsOwn, AreGiven, LacksOne, LacksLength, VersionsStand}
+use Rattle.gs_engine.specs.Joined.{Course, Moment, Joined, Goes}
+use Rattle.gs_engine.specs.Reading.{AreGiven, LacksOne, LacksLength, VersionsStand}
 use Rattle.gs_engine.specs.Starting.{IsJobFor, HasStart, IsDueNow}
 use Rattle.gs_engine.specs.Steps.{whatever}
 use Rattle.gs_engine.proofs.Due.{start_due, versions_stand}

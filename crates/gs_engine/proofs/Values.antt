@@ -1,7 +1,6 @@
 -- What a version holds in the sequential run stands in its file.
-use Rattle.std.proofs.Common.{◌≡◌, ℕ, zero, suc, ◌+◌, ◌<◌, ◌≤◌, true, List, [], ◌∷◌, ◌++◌, length, Option, Some, None, refl, sym, ap, subst, ◌∙◌, arith, inl, inr, ◌⊎◌}
-use Rattle.std.specs.Prelude.{All, IsSome, map, slice_get, slice_index_or, option_map, Bool, ◌||◌, ◌==◌, false}
-use Rattle.std.specs.Bool.{⊤}
+use Rattle.std.proofs.Common.{◌≡◌, ℕ, zero, suc, ◌<◌, ◌≤◌, true, List, [], ◌∷◌, length, Option, Some, None, refl, sym, ap, subst, ◌∙◌, arith, inl, inr}
+use Rattle.std.specs.Prelude.{All, IsSome, option_map, Bool, ◌||◌, ◌==◌}
 use Rattle.std.specs.List.{list_any}
 use Rattle.std.proofs.lemmas.Bool.Decides.{eqb_tells}
 use Rattle.gs_types.specs.declared.note.Version.{Version}
@@ -11,18 +10,17 @@ use Rattle.gs_types.specs.declared.value.Value.{Value}
 use Rattle.gs_types.specs.declared.value.Value.TheVariants as value
 use Rattle.gs_types.specs.History.{History, outs_in}
 use Rattle.gs_disk.specs.Folder.{Folder}
-use Rattle.gs_disk.specs.Name.{IsUser}
-use Rattle.gs_entries.specs.Order.{dones, done_by, has_done}
+use Rattle.gs_entries.specs.Order.{dones, has_done}
 use Rattle.gs_entries.specs.declared.entry.Entry.{Entry}
 use Rattle.gs_entries.specs.declared.entry.Entry.TheVariants as made
-use Rattle.gs_store.specs.Names.{version_name, out_name, main_name}
-use Rattle.gs_talk.specs.Seq.{Run, Files, Content, Known, Lost, World, Task, content_of, output_of, task_at, IsTask}
+use Rattle.gs_store.specs.Names.{version_name, out_name}
+use Rattle.gs_talk.specs.Seq.{Run, Known, Task, output_of, task_at, IsTask}
 use Rattle.gs_talk_laws.specs.Numbers.{at_number}
 use Rattle.gs_talk_laws.specs.Versions.{version_value, left_by, closed_as}
-use Rattle.gs_talk_laws.proofs.Fuels.{same_tasks, one_task}
+use Rattle.gs_talk_laws.proofs.Fuels.{same_tasks}
 use Rattle.gs_history.specs.Setup.{Setup, world_at}
-use Rattle.gs_history.specs.Frontier.{IsThere, IsDone as IsFinished}
-use Rattle.gs_life.specs.Origin.{Origin, contents, run_of, UsersAre}
+use Rattle.gs_history.specs.Frontier.{IsThere}
+use Rattle.gs_life.specs.Origin.{Origin, run_of, UsersAre}
 use Rattle.gs_life.specs.Stands.{IsDone, IsRight}
 use Rattle.gs_engine.specs.Joined.{MainsStand}
 use Rattle.gs_engine.specs.Reading.{IsOwn}

@@ -1,6 +1,5 @@
 -- A core, a store, a disk and a link at one moment of a run.
-use Rattle.std.specs.Prelude.{◌≡◌, ℕ, ◌+◌, ◌≤◌, List, ◌++◌, length, Option, Some, IsSome, true, Result, Ok, Err}
-use Rattle.std.specs.Bool.{⊤}
+use Rattle.std.specs.Prelude.{◌≡◌, ℕ, ◌+◌, ◌≤◌, List, ◌++◌, length, Some, IsSome, true, Result, Ok, Err}
 use Rattle.gs_types.specs.Job.{Meaning}
 use Rattle.gs_types.specs.History.{History, outs_in}
 use Rattle.gs_types.specs.declared.job.Job.{Job}

@@ -7,3 +7,4 @@ pub mod Beginning
 pub mod Sealing
 pub mod Running
 pub mod Waiting
+pub mod Users

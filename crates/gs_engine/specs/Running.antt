@@ -9,7 +9,6 @@ use Rattle.gs_disk.specs.Moments.{EachNow, Always}
 use Rattle.gs_entries.specs.declared.entry.Entry.{Entry}
 use Rattle.gs_site.specs.Recorded.{HasDone}
 use Rattle.gs_store.specs.Keeps.{HasEntries}
-use Rattle.gs_store.specs.State.{StoreState}
 use Rattle.gs_store.specs.Versions.{len_of}
 use Rattle.gs_history.specs.Good.{Good, GoesOn, IsQuiet}
 use Rattle.gs_history.specs.Setup.{Setup}

@@ -26,6 +26,7 @@ ghost use Rattle.gs_finish.specs.Finishing.{IsNotLost};
 ghost use Rattle.gs_finish.specs.Halting.{HaltCaused};
 ghost use Rattle.gs_engine.specs.Beginning.{notes_by, notes_in, parts_of, Call, Enters, Begun};
 ghost use Rattle.gs_engine.specs.Sane.{Sane, IsRecorded, moment_of};
+ghost use Rattle.gs_engine.specs.Users.{UsersStay};
 
 use gs_broker::Broker;
 use gs_core::{Core, DoneNote};
@@ -111,6 +112,7 @@ fn begin_store<D: Disk>(
     ensures notes { OnOk result (notes_in 0 store.new.entries ≡ notes_in 0 store.old.entries) }
     ensures disk { D.tells → OnOk result (IsDiskOf store.new (D.state disk.new)) }
     ensures outside { IfErr result IsNotLost }
+    ensures users { D.tells → UsersStay (D.state disk.old) (D.state disk.new) }
     ensures cause { HaltCaused (D.state disk.old) (D.state disk.new) result }
     ensures stood { D.tells → (o : Origin) → o.texts ≡ texts.now
         → StandsFor o store.old.entries (D.state disk.old)
@@ -151,6 +153,7 @@ pub(crate) fn begin<D: Disk, K: Link>(
     ensures link { link_of site.new ≡ link_of site.old }
     ensures recorded { IsRecorded K.tells store.new.entries (link_of site.new) (mark_of site.new) }
     ensures outside { IfErr result IsNotLost }
+    ensures users { D.tells → UsersStay (D.state (disk_of site.old)) (D.state (disk_of site.new)) }
     ensures cause { HaltCaused (D.state (disk_of site.old)) (D.state (disk_of site.new)) result }
     ensures stands { D.tells → (o : Origin) → o.texts ≡ texts.now
         → StandsFor o store.old.entries (D.state (disk_of site.old))

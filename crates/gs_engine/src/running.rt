@@ -21,10 +21,11 @@ ghost use Rattle.gs_engine.specs.Beginning.{parts_of, Call, Enters};
 ghost use Rattle.gs_core.specs.Core.{IsVerdict};
 ghost use Rattle.gs_engine.specs.Joined.{Course, Joined, Goes};
 ghost use Rattle.gs_engine.specs.Reading.{LacksLength};
-ghost use Rattle.gs_engine.specs.Running.{HasRound, IsMisfitVerdict, IsCutShort, IsGivenUp, IsDiskFault, RunCaused, LacksLengthIn, Concludes, Went, Ran, fault_of_halt};
+ghost use Rattle.gs_engine.specs.Running.{HasRound, IsMisfitVerdict, IsCutShort, IsGivenUp, IsDiskFault, IsFruitless, RunCaused, LacksLengthIn, Concludes, Went, Ran, fault_of_halt};
 ghost use Rattle.gs_engine.specs.declared.running.RunFault.TheVariants as faults;
 ghost use Rattle.gs_engine.specs.Sane.{Sane, IsRecorded, moment_of};
 ghost use Rattle.gs_engine.specs.Starting.{HasCosts};
+ghost use Rattle.gs_engine.specs.Users.{UsersStay};
 
 use crate::begin::begin;
 use crate::seal::seal;
@@ -109,6 +110,7 @@ fn round<D: Disk, K: Link, F: Prices, C: CostLaw>(
     ensures recorded { OnOk result (IsRecorded K.tells store.new.entries (link_of site.new)
         (mark_of site.new)) }
     ensures refused { D.tells → IfErr result (LacksLength (D.state (disk_of site.new)).folder) }
+    ensures users { D.tells → UsersStay (D.state (disk_of site.old)) (D.state (disk_of site.new)) }
     ensures cause { HaltCaused (D.state (disk_of site.old)) (D.state (disk_of site.new)) result }
     ensures rise { K.faults (link_of site.old) ≤ K.faults (link_of site.new) }
     ensures failed { failed.new ≡ true → (failed.old ≡ true)
@@ -158,6 +160,7 @@ fn drive<D: Disk, K: Link, F: Prices, C: CostLaw>(
     ensures over { IfOk result
         (λ v. ((n : ℕ) → job_of core.new.queue n ≡ None) ⊎ IsMisfitVerdict v) }
     ensures refused { D.tells → IfErr result (LacksLength (D.state (disk_of site.new)).folder) }
+    ensures users { D.tells → UsersStay (D.state (disk_of site.old)) (D.state (disk_of site.new)) }
     ensures cause { HaltCaused (D.state (disk_of site.old)) (D.state (disk_of site.new)) result }
     ensures rise { K.faults (link_of site.old) ≤ K.faults (link_of site.new) }
     ensures failed { failed.new ≡ true → (failed.old ≡ true)
@@ -208,6 +211,8 @@ fn conclude<D: Disk, K: Link>(
     ensures disk { D.tells → IfOk result (λ s. IsDiskOf s (D.state (disk_of site.new))) }
     ensures link { link_of site.new ≡ link_of site.old }
     ensures refused { D.tells → IfErr result (LacksLengthIn (D.state (disk_of site.new)).folder) }
+    ensures users { D.tells → IsFruitless result
+        → UsersStay (D.state (disk_of site.old)) (D.state (disk_of site.new)) }
     ensures cause { Caused (IsDiskFault result) (D.state (disk_of site.old)).faults
         (D.state (disk_of site.new)).faults }
     ensures blamed { IsGivenUp result → failed ≡ true }
@@ -252,6 +257,8 @@ fn go<D: Disk, K: Link, F: Prices, C: CostLaw>(
     ensures stage { IfOk result (λ s. stage_of s.entries ≡ stages.Closed) }
     ensures disk { D.tells → IfOk result (λ s. IsDiskOf s (D.state (disk_of site.new))) }
     ensures refused { D.tells → IfErr result (LacksLengthIn (D.state (disk_of site.new)).folder) }
+    ensures users { D.tells → IsFruitless result
+        → UsersStay (D.state (disk_of site.old)) (D.state (disk_of site.new)) }
     ensures cause { RunCaused (D.state (disk_of site.old)).faults
         (D.state (disk_of site.new)).faults (K.faults (link_of site.old))
         (K.faults (link_of site.new)) result }
@@ -298,6 +305,8 @@ pub fn run<D: Disk, K: Link, F: Prices, C: CostLaw>(
     ensures stage { IfOk result (λ s. stage_of s.entries ≡ stages.Closed) }
     ensures disk { D.tells → IfOk result (λ s. IsDiskOf s (D.state (disk_of site.new))) }
     ensures refused { D.tells → IfErr result (LacksLengthIn (D.state (disk_of site.new)).folder) }
+    ensures users { D.tells → IsFruitless result
+        → UsersStay (D.state (disk_of site.old)) (D.state (disk_of site.new)) }
     ensures cause { RunCaused (D.state (disk_of site.old)).faults
         (D.state (disk_of site.new)).faults (K.faults (link_of site.old))
         (K.faults (link_of site.new)) result }

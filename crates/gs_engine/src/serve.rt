@@ -14,6 +14,7 @@ ghost use Rattle.gs_engine.specs.Joined.{Goes};
 ghost use Rattle.gs_engine.specs.Reading.{LacksLength};
 ghost use Rattle.gs_engine.specs.Sane.{Sane, moment_of};
 ghost use Rattle.gs_engine.specs.Steps.{Needs, always, whatever};
+ghost use Rattle.gs_engine.specs.Users.{UsersStay};
 
 use crate::reading::{know_name, load, look};
 use gs_core::{Core, Step};
@@ -31,6 +32,7 @@ fn save<D: Disk>(store: &mut Store, disk: &mut D, k: u32, bytes: &Blob) -> Resul
     ensures same { store.new ≡ store.old }
     ensures puts { D.tells → PutsVersion store.old (versions.Main k) bytes.now (D.state disk.old)
         (D.state disk.new) result }
+    ensures users { D.tells → UsersStay (D.state disk.old) (D.state disk.new) }
     ensures fails { FailsOutside (D.state disk.old) (D.state disk.new) result }
 {
     if bytes.bytes().len() > FILE_LIMIT {
@@ -54,6 +56,7 @@ fn look_at<D: Disk, K: Link>(
     ensures link { link_of site.new ≡ link_of site.old }
     ensures mark { mark_of site.new ≡ mark_of site.old }
     ensures refused { D.tells → IfErr result (LacksLength (D.state (disk_of site.new)).folder) }
+    ensures users { D.tells → UsersStay (D.state (disk_of site.old)) (D.state (disk_of site.new)) }
     ensures cause { HaltCaused (D.state (disk_of site.old)) (D.state (disk_of site.new)) result }
     ensures goes { D.tells → Goes D.state K.tells K.jobs (λ l. K.L.meaning (K.law l))
         (moment_of core.old store.now site.old) (moment_of core.new store.now site.new)
@@ -85,6 +88,7 @@ fn load_at<D: Disk, K: Link>(
     ensures link { link_of site.new ≡ link_of site.old }
     ensures mark { mark_of site.new ≡ mark_of site.old }
     ensures refused { D.tells → IfErr result (LacksLength (D.state (disk_of site.new)).folder) }
+    ensures users { D.tells → UsersStay (D.state (disk_of site.old)) (D.state (disk_of site.new)) }
     ensures cause { HaltCaused (D.state (disk_of site.old)) (D.state (disk_of site.new)) result }
     ensures goes { D.tells → Goes D.state K.tells K.jobs (λ l. K.L.meaning (K.law l))
         (moment_of core.old store.now site.old) (moment_of core.new store.now site.new)
@@ -117,6 +121,7 @@ fn save_at<D: Disk, K: Link>(
     ensures link { link_of site.new ≡ link_of site.old }
     ensures mark { mark_of site.new ≡ mark_of site.old }
     ensures refused { D.tells → IfErr result (LacksLength (D.state (disk_of site.new)).folder) }
+    ensures users { D.tells → UsersStay (D.state (disk_of site.old)) (D.state (disk_of site.new)) }
     ensures cause { HaltCaused (D.state (disk_of site.old)) (D.state (disk_of site.new)) result }
     ensures goes { D.tells → Goes D.state K.tells K.jobs (λ l. K.L.meaning (K.law l))
         (moment_of core.old store.old site.old) (moment_of core.new store.new site.new)
@@ -148,6 +153,7 @@ fn settle_one<D: Disk, K: Link>(
     ensures link { link_of site.new ≡ link_of site.old }
     ensures mark { mark_of site.new ≡ mark_of site.old }
     ensures refused { D.tells → IfErr result (LacksLength (D.state (disk_of site.new)).folder) }
+    ensures users { D.tells → UsersStay (D.state (disk_of site.old)) (D.state (disk_of site.new)) }
     ensures cause { HaltCaused (D.state (disk_of site.old)) (D.state (disk_of site.new)) result }
     ensures goes { D.tells → Goes D.state K.tells K.jobs (λ l. K.L.meaning (K.law l))
         (moment_of core.old store.old site.old) (moment_of core.new store.new site.new)
@@ -177,6 +183,7 @@ pub(crate) fn settle<D: Disk, K: Link>(
     ensures link { link_of site.new ≡ link_of site.old }
     ensures mark { mark_of site.new ≡ mark_of site.old }
     ensures refused { D.tells → IfErr result (LacksLength (D.state (disk_of site.new)).folder) }
+    ensures users { D.tells → UsersStay (D.state (disk_of site.old)) (D.state (disk_of site.new)) }
     ensures cause { HaltCaused (D.state (disk_of site.old)) (D.state (disk_of site.new)) result }
     ensures goes { D.tells → Goes D.state K.tells K.jobs (λ l. K.L.meaning (K.law l))
         (moment_of core.old store.old site.old) (moment_of core.new store.new site.new)

@@ -12,6 +12,7 @@ ghost use Rattle.gs_engine.specs.Reading.{LacksLength};
 ghost use Rattle.gs_engine.specs.Sane.{Sane, IsRecorded, moment_of};
 ghost use Rattle.gs_engine.specs.Starting.{IsJobFor, HasStart, IsDueNow, HasCosts, IsStill};
 ghost use Rattle.gs_engine.specs.Steps.{whatever};
+ghost use Rattle.gs_engine.specs.Users.{UsersStay};
 
 use crate::reading::inputs;
 use gs_core::{Core, Start};
@@ -108,6 +109,7 @@ fn start_one<D: Disk, K: Link>(
         (mark_of site.new)) }
     ensures mark { mark_of site.new ≡ mark_of site.old }
     ensures refused { D.tells → IfErr result (LacksLength (D.state (disk_of site.new)).folder) }
+    ensures users { D.tells → UsersStay (D.state (disk_of site.old)) (D.state (disk_of site.new)) }
     ensures cause { HaltCaused (D.state (disk_of site.old)) (D.state (disk_of site.new)) result }
     ensures rise { K.faults (link_of site.old) ≤ K.faults (link_of site.new) }
     ensures failed { failed.new ≡ true → (failed.old ≡ true)
@@ -151,6 +153,7 @@ pub(crate) fn start_all<D: Disk, K: Link, F: Prices, C: CostLaw>(
         (mark_of site.new)) }
     ensures mark { mark_of site.new ≡ mark_of site.old }
     ensures refused { D.tells → IfErr result (LacksLength (D.state (disk_of site.new)).folder) }
+    ensures users { D.tells → UsersStay (D.state (disk_of site.old)) (D.state (disk_of site.new)) }
     ensures cause { HaltCaused (D.state (disk_of site.old)) (D.state (disk_of site.new)) result }
     ensures rise { K.faults (link_of site.old) ≤ K.faults (link_of site.new) }
     ensures failed { failed.new ≡ true → (failed.old ≡ true)

@@ -18,6 +18,7 @@ ghost use Rattle.gs_engine.specs.Joined.{Goes};
 ghost use Rattle.gs_engine.specs.Sane.{Sane, IsRecorded, moment_of};
 ghost use Rattle.gs_engine.specs.Steps.{whatever};
 ghost use Rattle.gs_engine.specs.Waiting.{IsStillNow, HasGiven, AddsDone, SameMains, KeepsGiven, HasEndedAt, HasFinished, MarksDone};
+ghost use Rattle.gs_engine.specs.Users.{UsersStay};
 
 use gs_core::Core;
 use gs_disk::Disk;
@@ -50,6 +51,7 @@ fn keep<D: Disk>(
     ensures keeps { D.tells → KeepsGiven core.now store.old.entries store.new.entries n outs.now
         (D.state disk.old) (D.state disk.new) result }
     ensures found { IfErr result IsNotLost }
+    ensures users { D.tells → UsersStay (D.state disk.old) (D.state disk.new) }
     ensures cause { HaltCaused (D.state disk.old) (D.state disk.new) result }
 {
     let Some(op) = core.operation(n) else {
@@ -83,6 +85,7 @@ fn finished_one<D: Disk, K: Link>(
     ensures link { link_of site.new ≡ link_of site.old }
     ensures mark { mark_of site.new ≡ mark_of site.old }
     ensures refused { IfErr result IsNotLost }
+    ensures users { D.tells → UsersStay (D.state (disk_of site.old)) (D.state (disk_of site.new)) }
     ensures cause { HaltCaused (D.state (disk_of site.old)) (D.state (disk_of site.new)) result }
     ensures goes { D.tells → (link : K)
         → HasFinished K.tells K.jobs (λ l. K.L.meaning (K.law l)) n outs.now link (link_of site.old)
@@ -119,6 +122,7 @@ pub(crate) fn wait_one<D: Disk, K: Link>(
         (IsRecorded K.tells store.new.entries (link_of site.new) (mark_of site.new)) }
     ensures mark { mark_of site.new ≡ mark_of site.old }
     ensures refused { IfErr result IsNotLost }
+    ensures users { D.tells → UsersStay (D.state (disk_of site.old)) (D.state (disk_of site.new)) }
     ensures cause { HaltCaused (D.state (disk_of site.old)) (D.state (disk_of site.new)) result }
     ensures rise { K.faults (link_of site.old) ≤ K.faults (link_of site.new) }
     ensures failed { failed.new ≡ true → (failed.old ≡ true)

@@ -1,34 +1,27 @@
 -- A program's statements, and the whole of it, write no own text.
-use Rattle.std.proofs.Common.{◌≡◌, ◌+◌, ◌++◌, ℕ, zero, suc, ℤ, pos, ◌-ℤ◌, Bool, true, false, not, ◌&&◌, refl, ap, List, [], ◌∷◌, length, Result, Ok, Err, Option, Some, None, nat_lt, nat_le, if◌then◌else◌}
-use Rattle.std.specs.Prelude.{is_some, slice_get, set, map, count_by}
-use Rattle.std.specs.Bool.{⊤}
+use Rattle.std.proofs.Common.{◌≡◌, ℕ, zero, suc, Bool, true, false, not, ◌&&◌, List, [], ◌∷◌, length, Option, Some, None, nat_lt, nat_le}
+use Rattle.std.specs.Prelude.{is_some, map}
 use Rattle.std.specs.Option.{option_or}
 use Rattle.std.specs.List.{list_any}
-use Rattle.gs_idl.specs.Interface.{Param, Signature, op_place, params_at, writes_file}
-use Rattle.gs_tree.specs.declared.tree.Mode.{Mode}
-use Rattle.gs_tree.specs.declared.tree.Mode.TheVariants.{R, W, A}
+use Rattle.gs_idl.specs.Interface.{Param, op_place, params_at, writes_file}
 use Rattle.gs_tree.specs.Program.{Setting, Passed, Code, empty, block, set as assign, choose, while, for, open_file, read_line, close_file, barrier, print, print_file, print_str, call, Codes, none, one, MaybeCodes, without, otherwise}
 use Rattle.gs_types.specs.NameTest.{is_name}
-use Rattle.gs_types.specs.declared.value.Value.{Value}
-use Rattle.gs_types.specs.declared.value.Value.TheVariants.{Int, Str}
-use Rattle.gs_types.specs.declared.limits.TheConstants.{ACTION_LIMIT, FILE_LIMIT, STRING_LIMIT, PRINTED_LIMIT, TASK_LIMIT, NAME_LIMIT, HANDLE_LIMIT}
-use Rattle.gs_types.specs.declared.settings.FaultKind.{FaultKind}
-use Rattle.gs_types.specs.declared.settings.FaultKind.TheVariants.{TooManyActions, StringTooLong, TextTooLong, FileTooLong, WrongMode, BadName, OwnText, FileOpen, HandleOpen, TooManyOpen, TooManyNames, TooManyTasks, SameOut}
+use Rattle.gs_types.specs.declared.limits.TheConstants.{TASK_LIMIT, NAME_LIMIT}
+use Rattle.gs_types.specs.declared.settings.FaultKind.TheVariants.{BadName, OwnText, FileOpen, TooManyNames, TooManyTasks, SameOut}
 use Rattle.gs_talk.specs.declared.slot.Slot.{Slot}
 use Rattle.gs_talk.specs.declared.slot.Slot.TheVariants.{Held, Due}
 use Rattle.gs_talk.specs.declared.question.CallArg.{CallArg}
 use Rattle.gs_talk.specs.declared.question.CallArg.TheVariants as arg
-use Rattle.gs_talk.specs.declared.question.Question.{Question}
-use Rattle.gs_talk.specs.declared.question.Question.TheVariants.{Call, Use, OpenFile, CloseFile, Barrier, End, Fault, FuelOut}
+use Rattle.gs_talk.specs.declared.question.Question.TheVariants.{Call, Barrier}
 use Rattle.gs_talk.specs.declared.question.Answer.{Answer}
 use Rattle.gs_talk.specs.declared.question.Answer.TheVariants.{Went, Val, Bytes, Absent, TooLong}
-use Rattle.gs_talk.specs.Terms.{Placed, number, text, at, converted, compared, negated, inverted, both, placed, all_placed}
-use Rattle.gs_talk.specs.Values.{is_zero, fit, truth, apply, decided, atoi_of, order_of, int_of, text_of}
-use Rattle.gs_talk.specs.Texts.{formatted, Taken, no_more, got, read_line_at}
-use Rattle.gs_talk.specs.Talk.{Given, names_of, State, Opened, Dialogue, Done, Ask, Stop, Meaning, then_do, fails, fault_if, unless, step, counted, action, taken, set_to, used, looked, fitted, or_else, valued, all_valued, with_text, with_handle, appended, closed, do_set, printing, do_print, printing_str, do_print_str, opened_by, opened_at, is_written, open_fault, fresh, absent, opened, asks_to_open, opening, do_open, closing_by, closing, writes, is_own_text, writing, read_to, line_taken, reading, Handed, by_value, into, all_handed, arg_of, out_of, passed_valued, numbered, went, file_at, file_fault, files_fault, files_in, written_in, has_twice, with_name, with_names, call_fault, calling, do_call, do_call_at, tested, branch, ended, turns, test_or_true, run_setting, run_maybe, variable, run, run_all, run_else, run_first, settled, leaving, finish, start, dialogue}
-use Rattle.gs_talk_laws.proofs.Fuel.{Then, ThenAll, ThenArgs}
-use Rattle.gs_talk_laws.proofs.Statements.{noting_one, opens, noting_all, calls}
-use Rattle.gs_own_texts.proofs.Keeping.{CallKeeps, QuestionKeeps, HandlesKeep, Keeps, Kept, then_keeps, step_keeps, unless_keeps, ask_keeps, used_keeps, valued_keeps, value_kept, values_kept, set_kept, print_kept, print_str_kept, open_kept, closing_kept, writing_kept, reading_kept, handle_keeps, first_none, no_fault, both_no}
+use Rattle.gs_talk.specs.Terms.{Placed, placed, all_placed}
+use Rattle.gs_talk.specs.Values.{is_zero, int_of}
+use Rattle.gs_talk.specs.Texts.{formatted}
+use Rattle.gs_talk.specs.Talk.{Given, names_of, State, Done, Ask, Meaning, then_do, fault_if, step, counted, action, opened_at, is_written, closing, is_own_text, writing, reading, Handed, by_value, into, all_handed, arg_of, out_of, passed_valued, numbered, went, file_fault, files_fault, files_in, written_in, has_twice, with_names, call_fault, calling, do_call, do_call_at, tested, branch, ended, turns, test_or_true, run_setting, run_maybe, variable, run, run_all, run_else, run_first, settled, leaving, finish, start, dialogue}
+use Rattle.gs_talk_laws.proofs.Fuel.{ThenArgs}
+use Rattle.gs_talk_laws.proofs.Statements.{noting_all, calls}
+use Rattle.gs_own_texts.proofs.Keeping.{CallKeeps, HandlesKeep, Keeps, Kept, then_keeps, step_keeps, unless_keeps, ask_keeps, used_keeps, valued_keeps, value_kept, values_kept, set_kept, print_kept, print_str_kept, open_kept, closing_kept, writing_kept, reading_kept, handle_keeps, first_none, no_fault, both_no}
 
 abbrev KeptArgs : Given → ThenArgs → Type 0
 KeptArgs t go = (args : List CallArg) (s : State) → HandlesKeep t s.handles → Keeps t (go args s)

@@ -1,8 +1,8 @@
 -- The sequential run writes no own text.
-use Rattle.std.proofs.Common.{◌≡◌, ◌≢◌, ◌+◌, ◌++◌, ℕ, zero, suc, Bool, true, false, ◌||◌, refl, sym, ap, subst, ◌∙◌, List, [], ◌∷◌, length, Option, Some, None, if◌then◌else◌}
+use Rattle.std.proofs.Common.{◌≡◌, ◌≢◌, ◌+◌, ◌++◌, ℕ, zero, suc, Bool, true, false, refl, sym, ap, subst, ◌∙◌, List, [], ◌∷◌, length, Option, Some, None, if◌then◌else◌}
 use Rattle.std.specs.Prelude.{map, bytes_eq}
 use Rattle.std.proofs.lemmas.Slice.Eq.{bytes_eq-Decides}
-use Rattle.gs_idl.specs.Interface.{Param, Signature, params_at, writes_file}
+use Rattle.gs_idl.specs.Interface.{Param, params_at, writes_file}
 use Rattle.gs_types.specs.Job.{Meaning}
 use Rattle.gs_types.specs.declared.note.Version.TheVariants.{Out}
 use Rattle.gs_types.specs.declared.value.Value.{Value}
@@ -12,8 +12,8 @@ use Rattle.gs_talk.specs.declared.question.Question.{Question}
 use Rattle.gs_talk.specs.declared.question.Question.TheVariants.{Call, Use, OpenFile, CloseFile, Barrier, End, Fault, FuelOut}
 use Rattle.gs_talk.specs.declared.question.Answer.{Answer}
 use Rattle.gs_talk.specs.Talk.{Given, Dialogue, Done, Ask, Stop, is_own_text}
-use Rattle.gs_talk.specs.Seq.{Content, Known, Lost, Files, World, Run, Standing, Task, with_file, content_of, all_lost, set_first, rest_of, all_set, files_by, task_of, first_refused, after_call, world_after, reply, answered, step_by, seq}
-use Rattle.gs_talk_laws.specs.Versions.{Written, written_at, written_by, if_goes, written_in, written_next, writings}
+use Rattle.gs_talk.specs.Seq.{Content, Known, Lost, Files, World, Run, Standing, with_file, content_of, all_lost, set_first, rest_of, all_set, files_by, task_of, first_refused, after_call, world_after, reply, answered, step_by, seq}
+use Rattle.gs_talk_laws.specs.Versions.{Written, written_by, if_goes, written_in, written_next, writings}
 use Rattle.gs_own_texts.specs.Apart.{IsApart}
 use Rattle.gs_own_texts.specs.Laws.{OwnTextsStay, OwnTextsUnwritten}
 use Rattle.gs_own_texts.proofs.Keeping.{CallKeeps, QuestionKeeps, Keeps}

@@ -1,6 +1,5 @@
 -- Laws of the files that a run's own texts stand in.
 use Rattle.std.specs.Prelude.{◌≡◌, ℕ, true, List, map}
-use Rattle.gs_types.specs.declared.note.Version.{Version}
 use Rattle.gs_talk.specs.Talk.{is_own_text}
 use Rattle.gs_talk.specs.Seq.{Run, seq}
 use Rattle.gs_talk_laws.specs.Versions.{writings}

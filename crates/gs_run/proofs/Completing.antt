@@ -1,5 +1,5 @@
 -- A run that may be served ends in its status, where no count rises.
-use Rattle.std.proofs.Common.{◌≡◌, ◌≢◌, ◌⊎◌, ℕ, ◌+◌, ◌<◌, ◌≤◌, List, length, Option, Some, None, Result, Ok, Err, refl, sym, ◌∙◌, ap, subst, inl, inr, arith}
+use Rattle.std.proofs.Common.{◌≡◌, ◌⊎◌, ℕ, ◌+◌, ◌≤◌, List, Option, Some, None, Result, Ok, Err, refl, sym, ◌∙◌, ap, subst, inl, inr, arith}
 use Rattle.gs_types.specs.Counts.{Rises}
 use Rattle.gs_types.specs.History.{History}
 use Rattle.gs_types.specs.Job.{Meaning}
@@ -22,7 +22,7 @@ use Rattle.gs_life.specs.Origin.{Origin, run_of}
 use Rattle.gs_run.specs.Course.{Takes}
 use Rattle.gs_run.specs.Ran.{Begins, Ran, IsServed, IsStatusOf, IsComplete}
 use Rattle.gs_run.specs.Ready.{HasResults, MayRun, LacksText, HasFault}
-use Rattle.gs_run.specs.Served.{HasList, Served, Refused, wrong, bad_list, no_worker}
+use Rattle.gs_run.specs.Served.{Served, Refused, wrong, bad_list, no_worker}
 use Rattle.gs_run.specs.Stop.{status_of}
 use Rattle.gs_run.specs.Unserved.{unserved}
 use Rattle.gs_run.specs.declared.kinds.TextKind.{TextKind}

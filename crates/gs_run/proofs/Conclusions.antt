@@ -1,7 +1,6 @@
 -- What a call of `run` did, by where it stopped.
-use Rattle.std.proofs.Common.{◌≡◌, ◌⊎◌, ℕ, ◌≤◌, List, [], ◌∷◌, ◌++◌, length, take, Option, Some, None, Result, Ok, Err, refl, sym, ◌∙◌, ap, subst, inl, inr, arith}
-use Rattle.std.specs.Prelude.{IsErrOf, IsSome}
-use Rattle.gs_types.specs.Counts.{Rises}
+use Rattle.std.proofs.Common.{◌≡◌, ℕ, ◌≤◌, List, [], Option, Some, Result, Ok, Err, refl, sym, ◌∙◌, ap, subst, inl, inr}
+use Rattle.std.specs.Prelude.{IsSome}
 use Rattle.gs_types.specs.History.{History, outs_in}
 use Rattle.gs_types.specs.Job.{Meaning}
 use Rattle.gs_types.specs.declared.settings.Settings.{Settings}
@@ -15,18 +14,17 @@ use Rattle.gs_entries.specs.declared.entry.Entry.{Entry as Store}
 use Rattle.gs_entries.specs.Order.{stage_of}
 use Rattle.gs_entries.specs.declared.entry.Stage.TheVariants as stages
 use Rattle.gs_entries.specs.declared.entry.Texts.{Texts}
-use Rattle.gs_idl.specs.Interface.{Signature}
 use Rattle.gs_entries.specs.declared.entry.GateNote.{GateNote}
 use Rattle.gs_store.specs.Keeps.{HasEntries}
 use Rattle.gs_store.specs.Loading.{IsStoreOf, IsLoaded}
 use Rattle.gs_store.specs.Ordered.{AreInOrder, gate_in}
 use Rattle.gs_store.specs.State.{StoreState, IsDiskOf}
 use Rattle.gs_talk.specs.Talk.{Given}
-use Rattle.gs_verbs.specs.declared.stops.BadStore.{BadStore}
 use Rattle.gs_verbs.proofs.Stores.{has_one}
 use Rattle.gs_life.specs.Called.{StandsFor}
 use Rattle.gs_life.specs.Origin.{Origin}
 use Rattle.gs_life.specs.Stands.{Stands, Fresh, Running, Gated, Closed, StandsClosed}
+use Rattle.gs_engine.specs.Users.{UsersStay}
 use Rattle.gs_run.specs.Course.{IsRunOf, NeedsNone, HasCourse, IsFruitless, AtEndBy, Takes, Stood, IsTextOf}
 use Rattle.gs_run.specs.Halted.{HaltsAs, CarriedBy, IsOfRun, PutText}
 use Rattle.gs_run.specs.Ran.{BlamesBy, Untouched, Begins, Ran}
@@ -100,6 +98,7 @@ ran_unready settings told wrote old new law tells link out written i p w (Text (
       judged = is;
       left = λ t. untouched old new (same t) (images t);
       still = λ t c. untouched old new (same t) (images t);
+      users = λ t is. absurd is;
       written = λ h. refl;
       stood = λ t o past b. nothing o settings (HasResults old.folder i p) (old.folder w) past old new
           tells (stop.NoText n) (reads t) b.stand (images t) b.told tt (λ x. x) tt;
@@ -111,6 +110,7 @@ ran_unready settings told wrote old new law tells link out written i p w (Text (
       judged = is;
       left = λ t. untouched old new (same t) (images t);
       still = λ t c. untouched old new (same t) (images t);
+      users = λ t is. absurd is;
       written = λ h. refl;
       stood = λ t o past b. nothing o settings (HasResults old.folder i p) (old.folder w) past old new
           tells (stop.BadText n line k) (reads t) b.stand (images t) b.told tt (λ x. x) tt;
@@ -122,6 +122,7 @@ ran_unready settings told wrote old new law tells link out written i p w (Text r
       judged = λ t. tt;
       left = λ t. tt;
       still = λ t c. untouched old new (same t) (images t);
+      users = λ t is. absurd is;
       written = λ h. refl;
       stood = λ t o past b. nothing o settings (HasResults old.folder i p) (old.folder w) past old new
           tells stop.Disk (reads t) b.stand (images t) b.told tt (λ x. x) tt;
@@ -133,6 +134,7 @@ ran_unready settings told wrote old new law tells link out written i p w (Text r
       judged = λ t. tt;
       left = λ t. tt;
       still = λ t c. untouched old new (same t) (images t);
+      users = λ t is. absurd is;
       written = λ h. refl;
       stood = λ t o past b. nothing o settings (HasResults old.folder i p) (old.folder w) past old new
           tells stop.Memory (reads t) b.stand (images t) b.told tt (λ x. x) tt;
@@ -144,6 +146,7 @@ ran_unready settings told wrote old new law tells link out written i p w (BadOne
       judged = λ t. inl (is t);
       left = λ t. inl (untouched old new (same t) (images t));
       still = λ t c. untouched old new (same t) (images t);
+      users = λ t is. absurd is;
       written = λ h. refl;
       stood = λ t o past b. nothing o settings (HasResults old.folder i p) (old.folder w) past old new
           tells (stop.BadStore why) (reads t) b.stand (images t) b.told (no_bad o i p old.folder why b.run_is (b.stand old.folder (reads t)) (is t).1) (λ x. x) tt;
@@ -155,6 +158,7 @@ ran_unready settings told wrote old new law tells link out written i p w (Other 
       judged = is;
       left = λ t. untouched old new (same t) (images t);
       still = λ t c. untouched old new (same t) (images t);
+      users = λ t is. absurd is;
       written = λ h. refl;
       stood = λ t o past b. nothing o settings (HasResults old.folder i p) (old.folder w) past old new
           tells (stop.OtherRun what) (reads t) b.stand (images t) b.told tt (λ x. x) tt;
@@ -166,6 +170,7 @@ ran_unready settings told wrote old new law tells link out written i p w Disk en
       judged = λ t. tt;
       left = λ t. tt;
       still = λ t c. untouched old new (same t) (images t);
+      users = λ t is. absurd is;
       written = λ h. refl;
       stood = λ t o past b. nothing o settings (HasResults old.folder i p) (old.folder w) past old new
           tells stop.Disk (reads t) b.stand (images t) b.told tt (λ x. x) tt;
@@ -177,6 +182,7 @@ ran_unready settings told wrote old new law tells link out written i p w Memory 
       judged = λ t. tt;
       left = λ t. tt;
       still = λ t c. untouched old new (same t) (images t);
+      users = λ t is. absurd is;
       written = λ h. refl;
       stood = λ t o past b. nothing o settings (HasResults old.folder i p) (old.folder w) past old new
           tells stop.Memory (reads t) b.stand (images t) b.told tt (λ x. x) tt;
@@ -334,15 +340,17 @@ pub ran_stopped : (settings : Settings) (told wrote : Type 0) (old mid new : Dis
     → (told → IsReady old.folder i p w r)
     → Carries settings told old new law tells_old tells_new i p r (Err e)
     → (told → HasClosed old.folder → Untouched old new)
+    → (told → IsFruitless {T = Unit} (Err e) → UsersStay old new)
     → Ran settings told wrote old new law tells_old tells_new link_old link_new out out written
     written i p w (Err e)
 ran_stopped settings told wrote old mid new law tells_old tells_new link_old link_new out written i p w
-    r e le halts blames is carries still = record {
+    r e le halts blames is carries still users = record {
       cause = blames_stop settings.fuel old.faults mid.faults new.faults link_old link_new out out r e
           le halts blames;
       judged = λ t. judged_stop old.folder i p w r e (is t) halts;
       left = λ t. left_stop old new i p w r e (is t) halts;
       still = still;
+      users = users;
       written = λ h. wrote_stop written r e halts;
       stood = λ t o past b.
           let c = carries t o past b in (
@@ -381,6 +389,7 @@ ran_put settings told wrote old new law tells_old tells_new link_old link_new ou
       judged = λ t. may_serve old.folder i p w r (is t);
       left = λ t. tt;
       still = still;
+      users = λ t is. absurd is;
       written = λ h. (text, put h);
       stood = λ t o past b.
           let c = carries t o past b in (
@@ -406,6 +415,7 @@ ran_put settings told wrote old new law tells_old tells_new link_old link_new ou
       judged = λ t. may_serve old.folder i p w r (is t);
       left = λ t. tt;
       still = still;
+      users = λ t is. absurd is;
       written = λ h. (text, (put.1 h).0, (put.1 h).2);
       stood = λ t o past b.
           let c = carries t o past b in (

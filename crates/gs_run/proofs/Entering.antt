@@ -1,5 +1,5 @@
 -- A call enters the engine as a run of its texts.
-use Rattle.std.proofs.Common.{◌≡◌, ℕ, ◌<◌, ◌≤◌, List, map, Option, Some, None, refl, sym, ◌∙◌, ap, subst, arith}
+use Rattle.std.proofs.Common.{◌≡◌, ℕ, ◌<◌, ◌≤◌, List, Option, Some, None, refl, sym, ◌∙◌, ap, subst, arith}
 use Rattle.std.specs.Prelude.{option_map, slice_get, Bool}
 use Rattle.gs_types.specs.History.{History}
 use Rattle.gs_types.specs.Job.{Meaning}
@@ -23,11 +23,10 @@ use Rattle.gs_talk_laws.specs.Stuck.{AreKnown}
 use Rattle.gs_main.specs.Talking.{Talking, given_by, first_talking, Goes}
 use Rattle.gs_talk.specs.Talk.{dialogue}
 use Rattle.gs_history.specs.Setup.{Setup}
-use Rattle.gs_tables.specs.Noted.{noting_of}
 use Rattle.gs_works.specs.Works.{IsBrokerOf}
 use Rattle.gs_life.specs.Origin.{Origin, contents}
 use Rattle.gs_life.specs.Called.{StandsFor}
-use Rattle.gs_engine.specs.Beginning.{notes_in, parts_of, Enters}
+use Rattle.gs_engine.specs.Beginning.{parts_of, Enters}
 use Rattle.gs_run.specs.Course.{IsRunOf, setup_for}
 use Rattle.gs_run.specs.Served.{SayBoth}
 use Rattle.gs_run.proofs.Courses.{call_for}

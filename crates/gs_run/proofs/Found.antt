@@ -11,8 +11,8 @@ use Rattle.gs_entries.specs.declared.entry.Stage.TheVariants as stages
 use Rattle.gs_talk_laws.specs.Fuels.{IsPrefixOf}
 use Rattle.gs_talk_laws.proofs.Lists.{prefix_same, prefix_then}
 use Rattle.gs_life.specs.Called.{StandsFor}
-use Rattle.gs_life.specs.Origin.{Origin, IsOutput}
-use Rattle.gs_life.specs.Stands.{IsDone, IsRight, AreOf, IsGateOf, IsFresh, IsRunning, IsGated, IsClosed, Stands, Fresh, Running, Gated, Closed, StandsClosed, StandsAt}
+use Rattle.gs_life.specs.Origin.{Origin}
+use Rattle.gs_life.specs.Stands.{IsRight, AreOf, IsRunning, IsGated, IsClosed, Stands, Fresh, Running, Gated, Closed, StandsClosed, StandsAt}
 use Rattle.gs_engine.specs.Running.{StandsRunning}
 use Rattle.gs_run.specs.Course.{IsRunOf}
 

@@ -11,7 +11,6 @@ use Rattle.gs_log.specs.Names.{mark_name}
 use Rattle.gs_entries.specs.Order.{stage_of}
 use Rattle.gs_entries.specs.declared.entry.Entry.{Entry}
 use Rattle.gs_entries.specs.declared.entry.GateNote.{GateNote}
-use Rattle.gs_entries.specs.declared.entry.Stage.TheVariants as stages
 use Rattle.gs_names.specs.Writes.{with_name}
 use Rattle.gs_store.specs.Ordered.{HasEnded}
 use Rattle.gs_talk.specs.Talk.{Given, is_own_text}
@@ -23,7 +22,7 @@ use Rattle.gs_history.specs.Setup.{Setup, world_at}
 use Rattle.gs_tables.specs.Gate.{AreFinals, written_names}
 use Rattle.gs_tables.specs.Marks.{with_names}
 use Rattle.gs_life.specs.Origin.{Origin, contents, run_of, UsersAre}
-use Rattle.gs_life.specs.Stands.{IsGateOf, OthersAre, AreLeft, Stands, Fresh, Running, Gated, Closed}
+use Rattle.gs_life.specs.Stands.{IsGateOf, Stands, Fresh, Running, Gated, Closed}
 use Rattle.gs_run.specs.Course.{IsRunOf}
 use Rattle.gs_run.specs.Ran.{HasWorkers, IsServed}
 use Rattle.gs_run.specs.Ready.{Finds, HasResults}

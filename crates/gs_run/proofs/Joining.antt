@@ -1,5 +1,5 @@
 -- What was found ready is of the run that the disk stands for.
-use Rattle.std.proofs.Common.{◌≡◌, ℕ, List, Option, Some, Ok, refl, sym, ◌∙◌, ap, subst, inl, inr}
+use Rattle.std.proofs.Common.{◌≡◌, ℕ, List, Some, refl, sym, ◌∙◌, ap, subst, inl, inr}
 use Rattle.gs_types.specs.Name.{IsName}
 use Rattle.gs_back.proofs.Fitting.{user_name}
 use Rattle.gs_disk.specs.Folder.{Folder, DiskState, Same}
@@ -18,9 +18,8 @@ use Rattle.gs_life.specs.Stands.{Stands, StandsAt}
 use Rattle.gs_life.proofs.Loading.{only_steady, stands_at}
 use Rattle.gs_run.specs.Course.{IsRunOf}
 use Rattle.gs_run.specs.Halted.{IsOfRun}
-use Rattle.gs_run.specs.Ready.{IsOwn, IsReady, IsAtStage, store_in}
+use Rattle.gs_run.specs.Ready.{IsOwn, IsReady, IsAtStage}
 use Rattle.gs_run.specs.Sources.{HasSources, AreNamed}
-use Rattle.gs_run.specs.declared.judge.Plan.{Plan}
 use Rattle.gs_run.specs.declared.ready.Ready.{Ready}
 use Rattle.gs_run.specs.declared.ready.Ready.TheVariants.{Ended, Going}
 use Rattle.gs_run.proofs.Sound.{rules_of}

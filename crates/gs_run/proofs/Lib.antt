@@ -18,6 +18,7 @@ pub mod Sound
 pub mod OneFolder
 pub mod Stopping
 pub mod Joining
+pub mod Users
 pub mod Conclusions
 pub mod Wishes
 pub mod Holding

@@ -1,5 +1,5 @@
 -- What a list of workers says, and its entries.
-use Rattle.std.proofs.Common.{◌≡◌, ℕ, zero, suc, List, [], ◌∷◌, length, refl, sym, ap, ◌∙◌}
+use Rattle.std.proofs.Common.{◌≡◌, ℕ, zero, suc, List, [], ◌∷◌, refl, sym}
 use Rattle.std.specs.Prelude.{slice_get, option_map}
 use Rattle.gs_broker.specs.Workers.{slots_at, takes_at, program_of}
 use Rattle.gs_broker.specs.Reading.{entries_of}

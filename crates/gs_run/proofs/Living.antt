@@ -7,7 +7,7 @@ use Rattle.gs_life.specs.Lives.{IsNext, IsFirst}
 use Rattle.gs_life.specs.Origin.{Origin}
 use Rattle.gs_life.specs.Stands.{Stands, Fresh}
 use Rattle.gs_run.specs.Course.{IsRunOf}
-use Rattle.gs_run.specs.Lives.{Seen, IsCall, AreCalls, IsLife, HasNoFault, Keeps, AllKeep}
+use Rattle.gs_run.specs.Lives.{Seen, IsCall, AreCalls, IsLife, Keeps, AllKeep}
 use Rattle.gs_run.specs.Ran.{Begins}
 use Rattle.gs_run.proofs.Completing.{complete}
 

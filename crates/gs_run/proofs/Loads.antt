@@ -1,9 +1,9 @@
 -- Stores that are loaded for a run, and why none is.
-use Rattle.std.proofs.Common.{◌≡◌, ◌≢◌, ℕ, ◌≤◌, List, Option, Some, None, Result, Ok, Err, refl, sym, ◌∙◌, ap, subst, inl, inr, arith}
+use Rattle.std.proofs.Common.{◌≡◌, ◌≢◌, ℕ, ◌≤◌, List, Option, Some, None, Result, Ok, Err, refl, sym, ◌∙◌, subst, inl, inr, arith}
 use Rattle.std.specs.Prelude.{IsSomeAnd, is_some}
 use Rattle.gs_types.specs.Counts.{Rises}
 use Rattle.gs_disk.specs.Folder.{Folder, DiskState, Same}
-use Rattle.gs_disk.specs.Moments.{Leaves, Comes, EachNow, Passes}
+use Rattle.gs_disk.specs.Moments.{EachNow, Passes}
 use Rattle.gs_log.specs.Names.{mark_name}
 use Rattle.gs_entries.specs.Order.{stage_of}
 use Rattle.gs_entries.specs.declared.entry.Entry.{Entry}
@@ -13,14 +13,12 @@ use Rattle.gs_store.specs.Keeps.{Keeps}
 use Rattle.gs_store.specs.Loading.{IsStoreOf, IsLoaded, Refuses}
 use Rattle.gs_store.specs.Ordered.{texts_of, HasEnded, DifferFirst}
 use Rattle.gs_store.specs.State.{StoreState}
-use Rattle.gs_store.specs.Told.{HasCause}
 use Rattle.gs_store.specs.declared.err.StoreErr.{StoreErr}
 use Rattle.gs_store.specs.declared.err.StoreErr.TheVariants.{BadLog, BadRecord, LostVersion, DiskFault, NoMemory}
 use Rattle.gs_store.specs.declared.same.What.{What}
 use Rattle.gs_run.specs.Judging.{JudgeTold}
 use Rattle.gs_run.specs.Ready.{unready_of, IsOwn, IsOtherOf, IsUnread, Finds, MayRun, GoingTold, IsGoing, IsReady, IsUnready, UnreadyEnds, store_in}
-use Rattle.gs_run.specs.Sources.{HasSources, SourcesTold, SourcesEnd}
-use Rattle.gs_run.specs.declared.judge.Plan.{Plan}
+use Rattle.gs_run.specs.Sources.{HasSources, SourcesTold}
 use Rattle.gs_run.specs.declared.ready.Ready.{Ready}
 use Rattle.gs_run.specs.declared.ready.Ready.TheVariants.{Ended, Going}
 use Rattle.gs_run.specs.declared.refusal.Refusal.{Refusal}

@@ -1,5 +1,5 @@
 -- A worker list that is too long.
-use Rattle.std.proofs.Common.{◌≡◌, ℕ, ◌<◌, List, length, Option, Result, Ok, Err, refl, sym, subst, arith}
+use Rattle.std.proofs.Common.{◌≡◌, ℕ, ◌<◌, List, length, Option, Err, refl, sym, subst, arith}
 use Rattle.gs_idl.specs.Interface.{Signature}
 use Rattle.gs_broker.specs.Text.{Entry, Says, too_long}
 use Rattle.gs_broker.specs.declared.kind.WorkersKind.TheVariants.{TooLong}

@@ -1,5 +1,5 @@
 -- A folder holds one pair of texts, and one store.
-use Rattle.std.proofs.Common.{◌≡◌, ◌≢◌, ◌⊎◌, ℕ, ◌<◌, ◌≤◌, List, length, Option, Some, None, refl, sym, ◌∙◌, ap, subst, inl, inr, arith}
+use Rattle.std.proofs.Common.{◌≡◌, ℕ, ◌<◌, ◌≤◌, List, length, Option, Some, None, refl, sym, ◌∙◌, ap, subst, inl, inr, arith}
 use Rattle.gs_disk.specs.Folder.{Folder}
 use Rattle.gs_entries.specs.Order.{stage_of}
 use Rattle.gs_entries.specs.declared.entry.Entry.{Entry as Recorded}

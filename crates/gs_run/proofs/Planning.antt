@@ -1,7 +1,6 @@
 -- What judging the texts of a run finds.
-use Rattle.std.proofs.Common.{◌≡◌, ℕ, List, Option, Some, None, Result, Ok, Err, refl, sym, subst, inl, inr}
+use Rattle.std.proofs.Common.{◌≡◌, ℕ, List, Option, Some, Result, Ok, Err, sym, subst}
 use Rattle.std.specs.Prelude.{MatchResult, IfOk}
-use Rattle.gs_idl.specs.Interface.{Signature}
 use Rattle.gs_broker.specs.Listed.{entries_in}
 use Rattle.gs_broker.specs.declared.workers.Workers.{Workers}
 use Rattle.gs_check.specs.Passing.{program_in, interface_in}

@@ -1,5 +1,5 @@
 -- A folder that stands has a store that may be used: each version that its entries name is there.
-use Rattle.std.proofs.Common.{◌≡◌, ◌≢◌, ℕ, zero, suc, ◌+◌, ◌<◌, ◌==◌, Bool, true, false, ◌&&◌, List, [], ◌∷◌, ◌++◌, length, Option, Some, None, refl, sym, ◌∙◌, ap, subst, inl, inr, arith}
+use Rattle.std.proofs.Common.{◌≡◌, ℕ, zero, suc, ◌<◌, ◌==◌, Bool, true, false, ◌&&◌, List, [], ◌∷◌, ◌++◌, length, Option, Some, None, refl, sym, ◌∙◌, ap, subst, arith}
 use Rattle.std.proofs.lemmas.Bool.{ltb-true}
 use Rattle.std.specs.Prelude.{All, option_map, is_some, if◌then◌else◌, nat_lt}
 use Rattle.gs_types.specs.declared.note.Note.{Note}
@@ -11,10 +11,10 @@ use Rattle.gs_types.specs.declared.value.Value.TheVariants as value
 use Rattle.gs_idl.specs.Interface.{KeepRules}
 use Rattle.gs_disk.specs.Folder.{Folder}
 use Rattle.gs_log.specs.Names.{mark_name}
-use Rattle.gs_fields.specs.Format.{byte, four, pair, counted, all_fit}
+use Rattle.gs_fields.specs.Format.{byte, pair, counted}
 use Rattle.gs_entries.specs.Entries.{entry}
 use Rattle.gs_entries.specs.Notes as notes
-use Rattle.gs_entries.specs.Order.{later, stage_after, stage_by, stage_of, may_follow, follows}
+use Rattle.gs_entries.specs.Order.{later, stage_after, stage_by, stage_of, may_follow}
 use Rattle.gs_entries.specs.declared.entry.Entry.{Entry}
 use Rattle.gs_entries.specs.declared.entry.Entry.TheVariants as made
 use Rattle.gs_entries.specs.declared.entry.GateNote.{GateNote}
@@ -23,14 +23,13 @@ use Rattle.gs_entries.specs.declared.entry.Stage.TheVariants as stages
 use Rattle.gs_entries.proofs.Ordered.{stage_push}
 use Rattle.gs_store.specs.Keeps.{HasEntries}
 use Rattle.gs_store.specs.Loading.{IsStoreOf}
-use Rattle.gs_store.specs.Names.{version_name, out_name}
 use Rattle.gs_store.specs.Ordered.{AreBehind, AreInOrder, gate_in, HasEnded}
 use Rattle.gs_store.specs.Versions.{Kept, kept_at, len_of, AllStand, outs_kept, finals_kept, kept_by, kept_in}
 use Rattle.gs_verbs.specs.Finding.{IsBad}
 use Rattle.gs_verbs.specs.declared.stops.BadStore.{BadStore}
 use Rattle.gs_verbs.proofs.Stores.{has_no_bad}
 use Rattle.gs_talk.specs.Talk.{Given}
-use Rattle.gs_talk.specs.Seq.{Task, seq, output_of}
+use Rattle.gs_talk.specs.Seq.{seq, output_of}
 use Rattle.gs_talk_laws.specs.Versions.{writings}
 use Rattle.gs_talk_laws.proofs.Stays.{tasks_read_versions}
 use Rattle.gs_history.specs.Notes.{note_of}
@@ -38,8 +37,8 @@ use Rattle.gs_tables.specs.Gate.{written_names}
 use Rattle.gs_tables.specs.Outs.{outs_noted, noted_at}
 use Rattle.gs_tables.proofs.Giving.{task_notes}
 use Rattle.gs_engine.proofs.SealingFinals.{held_stand}
-use Rattle.gs_life.specs.Origin.{Origin, run_of, IsOutput}
-use Rattle.gs_life.specs.Stands.{IsDone, IsRight, AreOf, IsGateOf, Stands, Fresh, Running, Gated, Closed}
+use Rattle.gs_life.specs.Origin.{Origin, run_of}
+use Rattle.gs_life.specs.Stands.{IsDone, IsRight, IsGateOf, Stands, Fresh, Running, Gated, Closed}
 use Rattle.gs_life.proofs.Loading.{in_order_read}
 use Rattle.gs_run.specs.Course.{IsRunOf}
 

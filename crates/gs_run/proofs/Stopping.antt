@@ -1,5 +1,5 @@
 -- How a call stops in the run, and what that says.
-use Rattle.std.proofs.Common.{◌≡◌, ℕ, ◌≤◌, List, Err, refl, inl, inr, arith}
+use Rattle.std.proofs.Common.{ℕ, ◌≤◌, List, Err, refl, inl, inr, arith}
 use Rattle.gs_types.specs.Counts.{Rises}
 use Rattle.gs_types.specs.declared.settings.FaultKind.{FaultKind}
 use Rattle.gs_broker.specs.Listed.{entries_in}

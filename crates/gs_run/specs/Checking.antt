@@ -1,21 +1,18 @@
 -- What a call of `gs check` did.
-use Rattle.std.specs.Prelude.{◌≡◌, ◌⊎◌, ℕ, ◌≤◌, List, ◌++◌, length, take, None, is_some, false, Result, Ok, Err}
+use Rattle.std.specs.Prelude.{◌≡◌, ℕ, ◌≤◌, List, ◌++◌, length, take, None, is_some, false, Result, Ok, Err}
 use Rattle.gs_types.specs.Counts.{Rises}
 use Rattle.gs_disk.specs.Folder.{Folder, DiskState, Same}
 use Rattle.gs_disk.specs.Moments.{Passes}
 use Rattle.gs_idl.specs.Interface.{Interface}
 use Rattle.gs_idl.specs.Printed as idl
-use Rattle.gs_idl.specs.declared.token.IdlKind.TheVariants as idl_kind
 use Rattle.gs_tree.specs.Printed as tree
 use Rattle.gs_tree.specs.Program.{Program}
-use Rattle.gs_parse.specs.declared.fault.ParseKind.TheVariants as parse_kind
 use Rattle.gs_check.specs.Faults.{fault_of}
 use Rattle.gs_check.specs.Passing.{program_in, interface_in}
 use Rattle.gs_check.specs.declared.checked.Checked.{Checked}
 use Rattle.gs_run.specs.Sources.{FirstMissing, FirstLong}
-use Rattle.gs_run.specs.Texts.{IsWithin, IsBeyond, HasBoth, IsWrong}
+use Rattle.gs_run.specs.Texts.{IsWithin, HasBoth, IsWrong}
 use Rattle.gs_run.specs.declared.kinds.TextKind.{TextKind}
-use Rattle.gs_run.specs.declared.kinds.TextKind.TheVariants as kind
 use Rattle.gs_run.specs.declared.stop.Stop.{Stop}
 use Rattle.gs_run.specs.declared.stop.Stop.TheVariants.{Usage, NoText, BadText, OtherRun, BadStore, Fault, FuelOut, TaskLost, WorkersLost, Gated, NoRun, Disk, Sink, Memory}
 

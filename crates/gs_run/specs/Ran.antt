@@ -18,7 +18,8 @@ use Rattle.gs_talk.specs.declared.question.Question.TheVariants as q
 use Rattle.gs_talk.specs.Seq.{EndsIn}
 use Rattle.gs_life.specs.Origin.{Origin, run_of}
 use Rattle.gs_life.specs.Stands.{Stands}
-use Rattle.gs_run.specs.Course.{IsRunOf, Takes, Stood, IsTextOf}
+use Rattle.gs_engine.specs.Users.{UsersStay}
+use Rattle.gs_run.specs.Course.{IsRunOf, IsFruitless, Takes, Stood, IsTextOf}
 use Rattle.gs_run.specs.Ready.{LacksText, HasFault, IsOther, HasBad, HasResults, HasClosed, MayRun}
 use Rattle.gs_run.specs.Served.{HasList, Served}
 use Rattle.gs_run.specs.Unserved.{unserved}
@@ -166,7 +167,8 @@ pub record Begins (o : Origin) (idl program : List ℕ) (law : Meaning) (tells :
 
 -- what a call did with three names and these settings, on a disk that tells its folder where `told`
 -- holds, a link under a law, and an output that tells what was written where `wrote` holds. Where
--- the store is closed nothing is written to the disk
+-- the store is closed nothing is written to the disk; and where the run is over with no results,
+-- the user's files are as before in each image, at every moment, whatever the folder was
 pub record Ran (settings : Settings) (told wrote : Type 0) (old new : DiskState) (law : Meaning)
     (tells_old tells_new : History → Type 0) (link_old link_new out_old out_new : ℕ)
     (written_old written_new : List ℕ) (idl program workers : List ℕ)
@@ -175,6 +177,7 @@ pub record Ran (settings : Settings) (told wrote : Type 0) (old new : DiskState)
   pub judged : told → Judged old.folder idl program workers answer
   pub left : told → Left old new idl program workers answer
   pub still : told → HasClosed old.folder → Untouched old new
+  pub users : told → IsFruitless answer → UsersStay old new
   pub written : wrote → Wrote written_old written_new answer
   pub stood : told → (o : Origin) (past : History)
       → Begins o idl program law tells_old past old

@@ -1,5 +1,5 @@
 -- Whether a run may begin: the folder's texts and its store.
-use Rattle.std.specs.Prelude.{◌≡◌, ◌≢◌, ◌⊎◌, ℕ, ◌≤◌, List, Option, Some, None, Result, Ok, Err}
+use Rattle.std.specs.Prelude.{◌≡◌, ◌≢◌, ◌⊎◌, ℕ, List, Option, Some, None, Result, Ok, Err}
 use Rattle.gs_types.specs.Counts.{Rises}
 use Rattle.gs_disk.specs.Folder.{Folder, DiskState}
 use Rattle.gs_entries.specs.Order.{stage_of}

@@ -15,7 +15,8 @@ ghost use Rattle.gs_site.specs.Site.{disk_of, link_of};
 ghost use Rattle.gs_store.specs.Ordered.{AreInOrder, HasEnded};
 ghost use Rattle.gs_store.specs.State.{IsDiskOf};
 ghost use Rattle.gs_types.specs.declared.limits.TheConstants.{TRIES_LIMIT};
-ghost use Rattle.gs_run.specs.Course.{IsRunOf, Stood};
+ghost use Rattle.gs_engine.specs.Users.{UsersStay};
+ghost use Rattle.gs_run.specs.Course.{IsRunOf, IsFruitless, Stood};
 ghost use Rattle.gs_run.specs.Halted.{stop_of_halt, stop_of_fault, Halts, Fails, HaltsAs, IsFinish, RunsBy, CarriedBy, IsOfRun, PutsText};
 ghost use Rattle.gs_run.specs.Judging.{SaysPlan};
 ghost use Rattle.gs_run.specs.Ran.{Ran, Blames};
@@ -131,6 +132,8 @@ fn run_by<D: Disk, K: Link, F: Prices + Drop, C: CostLaw>(
     ensures cause { Blames words.now.settings.fuel (D.state (disk_of site.old)).faults
         (D.state (disk_of site.new)).faults (K.faults (link_of site.old))
         (K.faults (link_of site.new)) 0 0 result }
+    ensures users { D.tells → IsFruitless result
+        → UsersStay (D.state (disk_of site.old)) (D.state (disk_of site.new)) }
     ensures halts { Halts result }
     ensures ran { D.tells → (o : Origin) (past : History)
         → StandsFor o store.entries (D.state (disk_of site.old))
@@ -179,6 +182,8 @@ fn run_plan<D: Disk, K: Link>(
     ensures cause { Blames words.now.settings.fuel (D.state (disk_of site.old)).faults
         (D.state (disk_of site.new)).faults (K.faults (link_of site.old))
         (K.faults (link_of site.new)) 0 0 result }
+    ensures users { D.tells → IsFruitless result
+        → UsersStay (D.state (disk_of site.old)) (D.state (disk_of site.new)) }
     ensures halts { Halts result }
     ensures ran { D.tells → (o : Origin) (past : History)
         → StandsFor o store.entries (D.state (disk_of site.old))
@@ -251,6 +256,8 @@ fn carry_out<D: Disk, K: Link>(
     ensures cause { Blames words.now.settings.fuel (D.state (disk_of site.old)).faults
         (D.state (disk_of site.new)).faults (K.faults (link_of site.old))
         (K.faults (link_of site.new)) 0 0 result }
+    ensures users { D.tells → IsFruitless result
+        → UsersStay (D.state (disk_of site.old)) (D.state (disk_of site.new)) }
     ensures halts { HaltsAs ready result }
     ensures stood { D.tells → (o : Origin) (past : History)
         → StandsFor o (store_in ready).entries (D.state (disk_of site.old))

@@ -65,13 +65,16 @@ number_token n digits rest w some high zero_is h s =
     subst (λ (k : ℕ). IsToken (digits ++ rest) (numeral (pos n)) k) (leading-run is_digit digits rest w.each s)
     (subst (λ (v : ℕ). IsToken (digits ++ rest) (numeral (pos v)) (leading is_digit (digits ++ rest))) value here)
 
--- a number that is printed, before a byte that is no digit
+-- a number that is printed is a token, before a byte that is no digit
+pub decimal_token : (n : ℕ) (rest : List ℕ) → n ≤ greatest → is_digit (slice_index rest 0) ≡ false → IsToken (fmt.decimal n ++ rest) (numeral (pos n)) (length (fmt.decimal n))
+decimal_token n rest h s =
+    let small : n < 2 ^ 64 = omega arith in
+    number_token n (fmt.decimal n) rest (writes n small) (decimal_nonempty n small) (λ p. first_decimal n p small) (zero_digits n) h s
+
+-- and is cut into its sign
 pub number_cuts : (n : ℕ) (rest : List ℕ) (signs : List Sign) → n ≤ greatest → is_digit (slice_index rest 0) ≡ false → Cuts rest signs →
     Cuts (fmt.decimal n ++ rest) (number (pos n) ∷ signs)
-number_cuts n rest signs h s next =
-    let small : n < 2 ^ 64 = omega arith in
-    let here = number_token n (fmt.decimal n) rest (writes n small) (decimal_nonempty n small) (λ p. first_decimal n p small) (zero_digits n) h s in
-    piece_cuts (fmt.decimal n) rest (numeral (pos n)) signs here next
+number_cuts n rest signs h s next = piece_cuts (fmt.decimal n) rest (numeral (pos n)) signs (decimal_token n rest h s) next
 
 -- what a printed number begins with
 pub number_first : (n : ℕ) (rest : List ℕ) → n ≤ greatest → is_digit (slice_index (fmt.decimal n ++ rest) 0) ≡ true

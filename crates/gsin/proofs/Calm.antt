@@ -1,5 +1,5 @@
 -- Over built-in operations a run that ends counts no fault of the link.
-use Rattle.std.proofs.Common.{◌≡◌, ◌<◌, ◌-◌, ◌^◌, ℕ, refl, ap, sym, ◌∙◌, subst, List, [], ◌++◌, Option, Result, inl, inr, arith}
+use Rattle.std.proofs.Common.{◌≡◌, ◌<◌, ◌-◌, ◌^◌, ℕ, sym, subst, List, ◌++◌, Option, Result, inl, inr, arith}
 use Rattle.std.proofs.Math.Logic.{∥∥₁_elim}
 use mathlib.Core.HLevel.{⊥_prop}
 use Rattle.gs_types.specs.Counts.{Rises}

@@ -1,5 +1,5 @@
 -- Where the sequential run ends, built-in operations fail no task of it.
-use Rattle.std.proofs.Common.{◌≡◌, ◌⊎◌, ◌≤◌, ◌+◌, ℕ, zero, suc, Bool, true, false, ◌||◌, refl, ap, sym, subst, ◌∙◌, List, [], ◌∷◌, ◌++◌, length, Option, Some, None, inl, inr, arith, eq-eqb, if◌then◌else◌}
+use Rattle.std.proofs.Common.{◌≡◌, ◌≤◌, ◌+◌, ℕ, zero, suc, Bool, true, false, ◌||◌, refl, ap, sym, subst, ◌∙◌, List, [], ◌∷◌, ◌++◌, length, Option, Some, None, inl, inr, arith, eq-eqb, if◌then◌else◌}
 use Rattle.std.specs.Prelude.{IsSome, ◌==◌, nat_le, is_none}
 use Rattle.std.specs.List.{list_any, list_all}
 use Rattle.std.proofs.lemmas.Bool.{and_parts, leb-true, false≢true, cases_Bool}
@@ -18,7 +18,7 @@ use Rattle.gs_types.specs.declared.job.Arg.{Arg}
 use Rattle.gs_types.specs.declared.job.Arg.TheVariants.{Given, Both, OutFile, OutInt, OutStr}
 use Rattle.gs_talk.specs.declared.question.Question.{Question}
 use Rattle.gs_talk.specs.Talk.{Dialogue, Done, Ask, Stop}
-use Rattle.gs_talk.specs.Seq.{Run, World, Task, seq, task_at, any_lost, is_lost, last_by, gives, fitting, fit, is_file, is_int, is_string, EndsIn}
+use Rattle.gs_talk.specs.Seq.{Run, Task, seq, task_at, any_lost, is_lost, last_by, gives, fitting, fit, is_file, is_int, is_string, EndsIn}
 use Rattle.gs_talk_laws.proofs.Ends.{ends_stay}
 use Rattle.gs_talk_laws.proofs.Stays.{tasks_read_versions}
 use Rattle.gs_talk_laws.proofs.Staying.{seq_grown}

@@ -8,6 +8,7 @@ use Rattle.gs_life.specs.Stands.{IsRunning}
 use Rattle.gs_engine.specs.Beginning.{parts_of, Enters}
 use Rattle.gs_engine.proofs.BeginningJoined.{sane_begun, recorded_begun, begun}
 use Rattle.gs_engine.proofs.BeginningWords.{done}
+use Rattle.gs_engine.specs.Users.{UsersStay}
 use Rattle.gs_engine.proofs.begin.begin.Goals as goal
 
 pub returns-in-Err-clause-recorded : goal.returns-in-Err-clause-recorded
@@ -62,3 +63,18 @@ returns-in-Ok-clause-begun g c = λ told call enters. begun c.in-Ok.core c.args.
     (parts_of c.args.texts.now (talking c.args.main) c.args.broker c.args.window)
     c.args.store.now.entries (disk_of c.args.site.now) l call) (sym c.begin_run.ensures.link)
     enters)
+
+pub returns-in-Err-clause-users : goal.returns-in-Err-clause-users
+returns-in-Err-clause-users g c = λ told. subst (λ d. UsersStay (g.D.Disk.state d)
+    (g.D.Disk.state c.begin_store.new.disk)) (c.disk.ensures.value ∙ c.begin_run.ensures.disk)
+    (c.begin_store.ensures.users told)
+
+pub returns-in-Ok-clause-users : goal.returns-in-Ok-clause-users
+returns-in-Ok-clause-users g c = λ told. subst (λ d. UsersStay (g.D.Disk.state d)
+    (g.D.Disk.state c.begin_store.new.disk)) (c.disk.ensures.value ∙ c.begin_run.ensures.disk)
+    (c.begin_store.ensures.users told)
+
+pub returns-in-Err-core_of-clause-users : goal.returns-in-Err-core_of-clause-users
+returns-in-Err-core_of-clause-users g c = λ told. subst (λ d. UsersStay (g.D.Disk.state d)
+    (g.D.Disk.state c.begin_store.new.disk)) (c.disk.ensures.value ∙ c.begin_run.ensures.disk)
+    (c.begin_store.ensures.users told)

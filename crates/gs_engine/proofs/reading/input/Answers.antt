@@ -1,4 +1,4 @@
-use Rattle.gs_engine.proofs.Inputs.{lacks_one, file_given, plain_given}
+use Rattle.gs_engine.proofs.Inputs.{lacks_one}
 use Rattle.gs_engine.proofs.reading.input.Goals as goal
 
 pub returns-in-Err-clause-refused : goal.returns-in-Err-clause-refused

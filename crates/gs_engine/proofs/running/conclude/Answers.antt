@@ -1,12 +1,12 @@
-use Rattle.std.proofs.Common.{◌≡◌, ◌++◌, if◌then◌else◌, sym, subst}
+use Rattle.std.proofs.Common.{◌++◌, if◌then◌else◌, sym, subst}
 use Rattle.gs_store.specs.State.{StoreState}
 use Rattle.gs_site.specs.Site.{disk_of, link_of}
 use Rattle.gs_core.specs.Core.{IsVerdict}
-use Rattle.gs_core.specs.declared.verdict.Verdict.TheVariants as verdict
-use Rattle.gs_engine.specs.Running.{LacksLengthIn, Concludes}
+use Rattle.gs_engine.specs.Running.{LacksLengthIn, Concludes, IsFruitless}
 use Rattle.gs_engine.specs.Sane.{moment_of}
 use Rattle.gs_engine.specs.declared.running.RunFault.TheVariants as fault
-use Rattle.gs_engine.proofs.Concluding.{failing, halt_lacks, given_shows, plain_concludes, sealed_concludes, unsealed_concludes}
+use Rattle.gs_engine.proofs.Concluding.{failing, halt_lacks, given_shows, plain_concludes, sealed_concludes, halt_fruitless}
+use Rattle.gs_engine.proofs.Users.{stay_here}
 use Rattle.gs_engine.proofs.running.conclude.Goals as goal
 
 pub returns-in-More-clause-concludes : goal.returns-in-More-clause-concludes
@@ -65,3 +65,32 @@ pub returns-in-Ok-clause-concludes : goal.returns-in-Ok-clause-concludes
 returns-in-Ok-clause-concludes g c = λ told. sealed_concludes StoreState
     (moment_of c.args.core.now c.args.store c.args.site.now) (disk_of c.seal.new.site)
     c.in-Ok.store c.args.verdict c.in-Ended.is (c.in-Ok.ensures.closes told)
+
+pub returns-in-Fault-clause-users : goal.returns-in-Fault-clause-users
+returns-in-Fault-clause-users g c = λ told fruitless. stay_here
+    (g.D.Disk.state (disk_of c.args.site.now))
+
+pub returns-in-FuelOut-clause-users : goal.returns-in-FuelOut-clause-users
+returns-in-FuelOut-clause-users g c = λ told fruitless. stay_here
+    (g.D.Disk.state (disk_of c.args.site.now))
+
+pub returns-in-TaskLost-clause-users : goal.returns-in-TaskLost-clause-users
+returns-in-TaskLost-clause-users g c = λ told fruitless. stay_here
+    (g.D.Disk.state (disk_of c.args.site.now))
+
+pub returns-in-WorkersLost-clause-users : goal.returns-in-WorkersLost-clause-users
+returns-in-WorkersLost-clause-users g c = λ told fruitless. stay_here
+    (g.D.Disk.state (disk_of c.args.site.now))
+
+pub returns-in-Misfit-clause-users : goal.returns-in-Misfit-clause-users
+returns-in-Misfit-clause-users g c = λ told fruitless. stay_here
+    (g.D.Disk.state (disk_of c.args.site.now))
+
+pub returns-in-More-clause-users : goal.returns-in-More-clause-users
+returns-in-More-clause-users g c = λ told fruitless. stay_here
+    (g.D.Disk.state (disk_of c.args.site.now))
+
+pub returns-in-Err-clause-users : goal.returns-in-Err-clause-users
+returns-in-Err-clause-users g c = λ told fruitless.
+    absurd (halt_fruitless StoreState c.in-Err.halt
+    (subst (λ e. IsFruitless (failing {T = StoreState} e)) c.stopped.ensures fruitless))

@@ -1,4 +1,4 @@
-use Rattle.std.proofs.Common.{◌≡◌, ◌≤◌, ℕ, true, false, arith, refl, sym, ap, subst}
+use Rattle.std.proofs.Common.{◌≡◌, true, false, arith, refl, sym, ap, subst}
 use Rattle.std.specs.Prelude.{◌⊎◌, IsErrOf}
 use Rattle.gs_types.specs.Counts.{Rises}
 use Rattle.gs_types.specs.History.{History}
@@ -11,15 +11,15 @@ use Rattle.gs_site.specs.Link.{IsIdle}
 use Rattle.gs_site.specs.Site.{disk_of, link_of}
 use Rattle.gs_store.specs.State.{StoreState}
 use Rattle.gs_engine.specs.Beginning.{parts_of}
-use Rattle.gs_engine.specs.Running.{Went}
+use Rattle.gs_engine.specs.Running.{Went, IsFruitless}
 use Rattle.gs_engine.specs.Sane.{moment_of}
-use Rattle.gs_engine.specs.declared.running.RunFault.{RunFault}
-use Rattle.gs_engine.proofs.Concluding.{failing, halted}
+use Rattle.gs_engine.proofs.Concluding.{failing, halted, halt_fruitless}
 use Rattle.gs_engine.proofs.Counting.{caused_from}
 use Rattle.gs_engine.proofs.Ending.{cut_halt, lacks_halt, caused_halt, idle_end, caused_end}
 use Rattle.gs_engine.proofs.Going.{begin_went, drive_went, end_went}
 use Rattle.gs_engine.proofs.Misfits.{enters_fit}
 use Rattle.gs_engine.proofs.Settling.{found_lacks}
+use Rattle.gs_engine.proofs.Users.{stay_then}
 use Rattle.gs_engine.proofs.running.go.Goals as goal
 
 pub returns-in-Err-clause-idle : goal.returns-in-Err-clause-idle
@@ -127,3 +127,22 @@ returns-in-Ok-drive-clause-went g c = λ told call enters costs. end_went StoreS
     (c.begin.ensures.stands told) (c.in-Ok.ensures.begun told) (c.in-Ok-drive.ensures.goes told)
     (c.conclude.ensures.concludes told)
     (enters_fit c.args.texts.now c.args.main c.args.broker c.args.window) call enters costs
+
+pub returns-in-Err-clause-users : goal.returns-in-Err-clause-users
+returns-in-Err-clause-users g c = λ told fruitless.
+    absurd (halt_fruitless StoreState c.in-Err.halt
+    (subst (λ e. IsFruitless (failing {T = StoreState} e)) c.stopped.ensures fruitless))
+
+pub returns-in-Err-drive-clause-users : goal.returns-in-Err-drive-clause-users
+returns-in-Err-drive-clause-users g c = λ told fruitless.
+    absurd (halt_fruitless StoreState c.in-Err-drive.halt
+    (subst (λ e. IsFruitless (failing {T = StoreState} e)) c.stopped-in-Err-drive.ensures fruitless))
+
+pub returns-in-Ok-drive-clause-users : goal.returns-in-Ok-drive-clause-users
+returns-in-Ok-drive-clause-users g c = λ told fruitless.
+    stay_then (g.D.Disk.state (disk_of c.args.site.now))
+    (g.D.Disk.state (disk_of c.drive.new.site)) (g.D.Disk.state (disk_of c.conclude.new.site))
+    (stay_then (g.D.Disk.state (disk_of c.args.site.now))
+    (g.D.Disk.state (disk_of c.begin.new.site)) (g.D.Disk.state (disk_of c.drive.new.site))
+    (c.begin.ensures.users told) (c.drive.ensures.users told))
+    (c.conclude.ensures.users told fruitless)

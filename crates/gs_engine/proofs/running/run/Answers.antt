@@ -4,6 +4,7 @@ use Rattle.gs_site.specs.Site.{disk_of, link_of}
 use Rattle.gs_engine.specs.Running.{Ran}
 use Rattle.gs_engine.proofs.Abandoning.{whole_ran, given_up, given_caused}
 use Rattle.gs_engine.proofs.Concluding.{failing}
+use Rattle.gs_engine.specs.Users.{UsersStay}
 use Rattle.gs_engine.proofs.running.run.Goals as goal
 
 pub returns-in-Ok-clause-ran : goal.returns-in-Ok-clause-ran
@@ -36,3 +37,8 @@ returns-in-Err-clause-cause g c = given_caused StoreState
     (failing {T = StoreState} c.in-Err.fault)
     (ap (λ d. (g.D.Disk.state d).faults) c.abandon.ensures.disk) c.abandon.ensures.rise
     c.in-Err.ensures.cause
+
+pub returns-in-Err-clause-users : goal.returns-in-Err-clause-users
+returns-in-Err-clause-users g c = λ told fruitless.
+    subst (λ d. UsersStay (g.D.Disk.state (disk_of c.args.site.now)) (g.D.Disk.state d))
+    (sym c.abandon.ensures.disk) (c.in-Err.ensures.users told fruitless)

@@ -8,6 +8,7 @@ use Rattle.gs_finish.specs.Halting.{Lacks}
 use Rattle.gs_engine.specs.Reading.{held}
 use Rattle.gs_engine.specs.Steps.{Needs, whatever}
 use Rattle.gs_engine.proofs.Settling.{load_goes, load_found, halts_same, version_lacks}
+use Rattle.gs_engine.proofs.Users.{stay_same}
 use Rattle.gs_engine.proofs.serve.load_at.Goals as goal
 
 pub returns-in-Ok-clause-goes : goal.returns-in-Ok-clause-goes
@@ -38,3 +39,15 @@ returns-in-Err-clause-refused g c = λ told.
     version_lacks (g.D.Disk.state c.disk.result.now).folder (g.D.Disk.state c.load.new.disk).folder
     c.args.version.now c.args.kept c.in-Err.halt (c.load.ensures.same told)
     (c.in-Err.ensures.refused told)
+
+pub returns-in-Ok-clause-users : goal.returns-in-Ok-clause-users
+returns-in-Ok-clause-users g c = λ told. stay_same
+    (g.D.Disk.state (disk_of c.args.site.now)) (g.D.Disk.state c.load.new.disk)
+    (subst (λ d. Passes Same (g.D.Disk.state d) (g.D.Disk.state c.load.new.disk))
+    c.disk.ensures.value (c.load.ensures.images told))
+
+pub returns-in-Err-clause-users : goal.returns-in-Err-clause-users
+returns-in-Err-clause-users g c = λ told. stay_same
+    (g.D.Disk.state (disk_of c.args.site.now)) (g.D.Disk.state c.load.new.disk)
+    (subst (λ d. Passes Same (g.D.Disk.state d) (g.D.Disk.state c.load.new.disk))
+    c.disk.ensures.value (c.load.ensures.images told))

@@ -1,4 +1,4 @@
-use Rattle.std.proofs.Common.{◌≡◌, subst, sym, ◌∙◌, refl}
+use Rattle.std.proofs.Common.{◌≡◌, subst}
 use Rattle.gs_disk.specs.Folder.{Same}
 use Rattle.gs_disk.specs.Moments.{Passes}
 use Rattle.gs_types.specs.declared.note.Version.TheVariants as versions
@@ -8,6 +8,7 @@ use Rattle.gs_core.specs.declared.stage.Step.TheVariants as step
 use Rattle.gs_engine.specs.Steps.{Needs, whatever}
 use Rattle.gs_engine.specs.Reading.{held}
 use Rattle.gs_engine.proofs.Settling.{look_goes, halts_same, found_lacks}
+use Rattle.gs_engine.proofs.Users.{stay_same}
 use Rattle.gs_engine.proofs.serve.look_at.Goals as goal
 
 pub returns-in-Ok-clause-goes : goal.returns-in-Ok-clause-goes
@@ -33,3 +34,15 @@ returns-in-Err-clause-goes g c = λ told. halts_same c.args.core.now c.args.stor
 pub returns-in-Err-clause-refused : goal.returns-in-Err-clause-refused
 returns-in-Err-clause-refused g c = λ told.
     found_lacks (g.D.Disk.state c.look.new.disk).folder c.in-Err.halt c.in-Err.ensures.outside
+
+pub returns-in-Ok-clause-users : goal.returns-in-Ok-clause-users
+returns-in-Ok-clause-users g c = λ told. stay_same
+    (g.D.Disk.state (disk_of c.args.site.now)) (g.D.Disk.state c.look.new.disk)
+    (subst (λ d. Passes Same (g.D.Disk.state d) (g.D.Disk.state c.look.new.disk))
+    c.disk.ensures.value (c.look.ensures.images told))
+
+pub returns-in-Err-clause-users : goal.returns-in-Err-clause-users
+returns-in-Err-clause-users g c = λ told. stay_same
+    (g.D.Disk.state (disk_of c.args.site.now)) (g.D.Disk.state c.look.new.disk)
+    (subst (λ d. Passes Same (g.D.Disk.state d) (g.D.Disk.state c.look.new.disk))
+    c.disk.ensures.value (c.look.ensures.images told))

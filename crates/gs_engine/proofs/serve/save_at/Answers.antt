@@ -1,12 +1,12 @@
-use Rattle.std.proofs.Common.{◌≡◌, subst, sym}
+use Rattle.std.proofs.Common.{subst, sym}
 use Rattle.gs_types.specs.declared.note.Version.TheVariants as versions
 use Rattle.gs_store.specs.Told.{PutsVersion}
 use Rattle.gs_core.specs.declared.stage.Step.TheVariants as step
 use Rattle.gs_site.specs.Site.{disk_of, link_of}
 use Rattle.gs_finish.specs.Finishing.{IsNotLost}
-use Rattle.gs_finish.specs.Halting.{halt_of}
 use Rattle.gs_engine.specs.Steps.{Needs, whatever}
 use Rattle.gs_engine.proofs.Settling.{kept, save_goes, save_halts, outside_found, found_lacks}
+use Rattle.gs_engine.specs.Users.{UsersStay}
 use Rattle.gs_engine.proofs.serve.save_at.Goals as goal
 
 pub returns-in-Ok-clause-goes : goal.returns-in-Ok-clause-goes
@@ -34,3 +34,11 @@ returns-in-Err-clause-refused g c = λ told.
     found_lacks (g.D.Disk.state c.save.new.disk).folder c.from.result
     (subst IsNotLost (sym c.from.ensures)
     (outside_found c.in-Err.failure c.in-Err.ensures.fails.outside))
+
+pub returns-in-Ok-clause-users : goal.returns-in-Ok-clause-users
+returns-in-Ok-clause-users g c = λ told. subst (λ d. UsersStay (g.D.Disk.state d)
+    (g.D.Disk.state c.save.new.disk)) c.disk.ensures.value (c.save.ensures.users told)
+
+pub returns-in-Err-clause-users : goal.returns-in-Err-clause-users
+returns-in-Err-clause-users g c = λ told. subst (λ d. UsersStay (g.D.Disk.state d)
+    (g.D.Disk.state c.save.new.disk)) c.disk.ensures.value (c.save.ensures.users told)

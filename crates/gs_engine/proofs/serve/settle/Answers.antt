@@ -1,5 +1,5 @@
-use Rattle.std.proofs.Common.{◌≡◌, ◌∙◌, ◌≤◌, ℕ, arith, refl, subst}
-use Rattle.std.specs.Prelude.{IsErrOf, Err}
+use Rattle.std.proofs.Common.{◌∙◌, ℕ, arith, refl, subst}
+use Rattle.std.specs.Prelude.{IsErrOf}
 use Rattle.gs_finish.specs.declared.halt.Halt.TheVariants.{Disk}
 use Rattle.gs_types.specs.History.{History}
 use Rattle.gs_history.specs.Setup.{Setup}
@@ -9,6 +9,7 @@ use Rattle.gs_engine.specs.Sane.{moment_of}
 use Rattle.gs_engine.specs.Steps.{always}
 use Rattle.gs_engine.proofs.Counting.{caused_from}
 use Rattle.gs_engine.proofs.Settling.{done, halt, nothing_goes, advance_then, settled_goes}
+use Rattle.gs_engine.proofs.Users.{stay_here, stay_then}
 use Rattle.gs_engine.proofs.serve.settle.Goals as goal
 
 pub loop-i-init : goal.loop-i-init
@@ -19,6 +20,7 @@ loop-i-init g c = record {
   link = refl;
   mark = refl;
   rise = omega arith;
+  users = λ told. stay_here (g.D.Disk.state (disk_of c.args.site.now));
   goes = λ told. nothing_goes c.args.core.now c.args.store.now (disk_of c.args.site.now)
       (link_of c.args.site.now) always;
 }
@@ -32,6 +34,9 @@ loop-i-preserved g c = record {
   mark = c.settle_one.ensures.mark ∙ c.loop-i.invariant.mark;
   rise = let a = c.loop-i.invariant.rise in let b = c.settle_one.ensures.cause.rise in
       omega (arith, a, b);
+  users = λ told. stay_then (g.D.Disk.state (disk_of c.args.site.now))
+      (g.D.Disk.state (disk_of c.loop-i.site)) (g.D.Disk.state (disk_of c.settle_one.new.site))
+      (c.loop-i.invariant.users told) (c.settle_one.ensures.users told);
   goes = λ told. advance_then (moment_of c.settle_one.new.core c.settle_one.new.store
       c.settle_one.new.site) c.loop-i.core c.advance.new.self c.loop-i.store
       (disk_of c.loop-i.site) (link_of c.loop-i.site) c.in-Ok.step done
@@ -59,6 +64,9 @@ returns-in-loop-i g c = record {
       (g.D.Disk.state (disk_of c.loop-i.site)).faults
       (g.D.Disk.state (disk_of c.settle_one.new.site)).faults
       c.loop-i.invariant.rise c.in-Err-settle_one.ensures.cause;
+  users = λ told. stay_then (g.D.Disk.state (disk_of c.args.site.now))
+      (g.D.Disk.state (disk_of c.loop-i.site)) (g.D.Disk.state (disk_of c.settle_one.new.site))
+      (c.loop-i.invariant.users told) (c.settle_one.ensures.users told);
   goes = λ told. advance_then (moment_of c.settle_one.new.core c.settle_one.new.store
       c.settle_one.new.site) c.loop-i.core c.advance.new.self c.loop-i.store
       (disk_of c.loop-i.site) (link_of c.loop-i.site) c.in-Ok.step

@@ -1,4 +1,4 @@
-use Rattle.std.proofs.Common.{◌≡◌, ◌∙◌, Err, ap, subst}
+use Rattle.std.proofs.Common.{◌∙◌, Err, ap, subst}
 use Rattle.gs_types.specs.History.{started, refused}
 use Rattle.gs_site.specs.Link.{TellsStart}
 use Rattle.gs_site.specs.Site.{disk_of, link_of, mark_of}

@@ -1,9 +1,7 @@
-use Rattle.std.proofs.Common.{◌≡◌, ◌≤◌, ap, sym, subst}
-use Rattle.std.specs.Prelude.{IsErrOf}
+use Rattle.std.proofs.Common.{◌≡◌, ◌≤◌, ap, subst, sym}
 use Rattle.gs_disk.specs.Folder.{Same}
 use Rattle.gs_disk.specs.Moments.{Passes}
-use Rattle.gs_types.specs.Counts.{Caused}
-use Rattle.gs_finish.specs.declared.halt.Halt.TheVariants.{Disk, NoMemory}
+use Rattle.gs_finish.specs.declared.halt.Halt.TheVariants.{NoMemory}
 use Rattle.gs_site.specs.Site.{disk_of, link_of}
 use Rattle.gs_engine.specs.Reading.{AreGiven, LacksOne}
 use Rattle.gs_engine.specs.Sane.{moment_of}
@@ -11,6 +9,8 @@ use Rattle.gs_engine.specs.Starting.{IsDueNow}
 use Rattle.gs_engine.specs.Steps.{whatever}
 use Rattle.gs_engine.proofs.Settling.{halts_same}
 use Rattle.gs_engine.proofs.Starts.{start_found, start_goes, memory_caused, memory_lacks}
+use Rattle.gs_engine.proofs.Users.{stay_same, stay_then, stay_here}
+use Rattle.gs_engine.specs.Users.{UsersStay}
 use Rattle.gs_engine.proofs.start.start_one.Goals as goal
 
 pub returns-in-Err-clause-goes : goal.returns-in-Err-clause-goes
@@ -59,3 +59,25 @@ returns-clause-goes g c = λ told. start_goes c.args.core.now c.args.store.now
     (subst (λ xs. AreGiven (g.D.Disk.state c.disk.result.now).folder xs c.in-Ok.args)
     c.items.ensures (c.in-Ok.ensures.given told)))
     c.in-Ok-job_for.ensures (c.begin_job.ensures.goes told)
+
+pub returns-in-Err-clause-users : goal.returns-in-Err-clause-users
+returns-in-Err-clause-users g c = λ told. stay_same
+    (g.D.Disk.state (disk_of c.args.site.now)) (g.D.Disk.state c.inputs.new.disk)
+    (subst (λ d. Passes Same (g.D.Disk.state d) (g.D.Disk.state c.inputs.new.disk))
+    c.disk.ensures.value (c.inputs.ensures.images told))
+
+pub returns-in-Err-job_for-clause-users : goal.returns-in-Err-job_for-clause-users
+returns-in-Err-job_for-clause-users g c = λ told. stay_same
+    (g.D.Disk.state (disk_of c.args.site.now)) (g.D.Disk.state c.inputs.new.disk)
+    (subst (λ d. Passes Same (g.D.Disk.state d) (g.D.Disk.state c.inputs.new.disk))
+    c.disk.ensures.value (c.inputs.ensures.images told))
+
+pub returns-clause-users : goal.returns-clause-users
+returns-clause-users g c = λ told.
+    subst (λ d. UsersStay (g.D.Disk.state (disk_of c.args.site.now)) (g.D.Disk.state d))
+    (sym c.begin_job.ensures.disk)
+    (stay_same (g.D.Disk.state (disk_of c.args.site.now)) (g.D.Disk.state c.inputs.new.disk)
+    (subst (λ d. Passes Same (g.D.Disk.state d) (g.D.Disk.state c.inputs.new.disk))
+    c.disk.ensures.value (c.inputs.ensures.images told)))
+
+

@@ -3,6 +3,7 @@ use Rattle.gs_site.specs.Site.{disk_of, link_of}
 use Rattle.gs_engine.specs.Waiting.{SameMains, KeepsGiven}
 use Rattle.gs_engine.proofs.Waiting.{marks_done, still_running, given_notes, no_notes}
 use Rattle.gs_engine.proofs.WaitingEnds.{sane_ended, finished_goes, finished_halts}
+use Rattle.gs_engine.specs.Users.{UsersStay}
 use Rattle.gs_engine.proofs.wait.finished_one.Goals as goal
 
 pub returns-in-Ok-clause-sane : goal.returns-in-Ok-clause-sane
@@ -41,3 +42,11 @@ returns-in-Err-clause-goes g c = λ told link ended. finished_halts c.args.core.
     (subst (λ d. KeepsGiven c.args.core.now c.args.store.now.entries c.keep.new.store.entries
     c.args.n c.args.outs.now (g.D.Disk.state d) (g.D.Disk.state c.keep.new.disk)
     (no_notes c.in-Err.halt)) c.disk.ensures.value (c.in-Err.ensures.keeps told)) ended
+
+pub returns-in-Ok-clause-users : goal.returns-in-Ok-clause-users
+returns-in-Ok-clause-users g c = λ told. subst (λ d. UsersStay (g.D.Disk.state d)
+    (g.D.Disk.state c.keep.new.disk)) c.disk.ensures.value (c.keep.ensures.users told)
+
+pub returns-in-Err-clause-users : goal.returns-in-Err-clause-users
+returns-in-Err-clause-users g c = λ told. subst (λ d. UsersStay (g.D.Disk.state d)
+    (g.D.Disk.state c.keep.new.disk)) c.disk.ensures.value (c.keep.ensures.users told)

@@ -4,6 +4,7 @@ use Rattle.gs_keep.specs.Given.{files_in, placed}
 use Rattle.gs_finish.specs.Finishing.{IsNotLost}
 use Rattle.gs_engine.proofs.Settling.{outside_found}
 use Rattle.gs_engine.proofs.Waiting.{same_mains, notes_are, entry_is, outputs_are, kept_ok, kept_err, keeps_none, kept_notes, not_kept}
+use Rattle.gs_engine.proofs.Users.{stay_here, stay_keeps}
 use Rattle.gs_engine.proofs.wait.keep.Goals as goal
 
 pub returns-in_default-clause-keeps : goal.returns-in_default-clause-keeps
@@ -56,3 +57,19 @@ returns-in-Err-clause-keeps g c = λ told. kept_err c.args.core.now c.args.store
 pub returns-in-Err-clause-found : goal.returns-in-Err-clause-found
 returns-in-Err-clause-found g c = subst IsNotLost (sym c.from.ensures)
     (outside_found c.in-Err.failure c.in-Err.ensures.fails.outside)
+
+pub returns-in_default-clause-users : goal.returns-in_default-clause-users
+returns-in_default-clause-users g c = λ told. stay_here (g.D.Disk.state c.args.disk.now)
+
+pub returns-then-n-eq0-clause-users : goal.returns-then-n-eq0-clause-users
+returns-then-n-eq0-clause-users g c = λ told. stay_here (g.D.Disk.state c.args.disk.now)
+
+pub returns-in-Ok-clause-users : goal.returns-in-Ok-clause-users
+returns-in-Ok-clause-users g c = λ told. stay_keeps c.args.store.now _ c.args.n _
+    (g.D.Disk.state c.args.disk.now) (g.D.Disk.state c.keep_outputs.new.disk)
+    c.keep_outputs.result (c.requires.disk_of_store told) (c.keep_outputs.ensures.keeps told)
+
+pub returns-in-Err-clause-users : goal.returns-in-Err-clause-users
+returns-in-Err-clause-users g c = λ told. stay_keeps c.args.store.now _ c.args.n _
+    (g.D.Disk.state c.args.disk.now) (g.D.Disk.state c.keep_outputs.new.disk)
+    c.keep_outputs.result (c.requires.disk_of_store told) (c.keep_outputs.ensures.keeps told)

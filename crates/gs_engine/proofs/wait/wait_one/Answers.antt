@@ -12,6 +12,7 @@ use Rattle.gs_finish.specs.declared.halt.Halt.{Halt}
 use Rattle.gs_engine.proofs.Settling.{halt}
 use Rattle.gs_engine.proofs.Launching.{goes_unstarted, recorded_by}
 use Rattle.gs_engine.proofs.WaitingEnds.{finish_within, finish_told, fail_flew, fail_told, recorded_finished, failed_goes}
+use Rattle.gs_engine.specs.Users.{UsersStay}
 use Rattle.gs_engine.proofs.wait.wait_one.Goals as goal
 
 pub returns-in_err-n-clause-goes : goal.returns-in_err-n-clause-goes
@@ -96,3 +97,8 @@ returns-in-Failed-clause-goes g c = λ told.
     (ap g.K.L.Law.meaning c.next.ensures.law)
     (fail_told g.K.Link.tells old new c.in_ok-n.field-0 c.in-Failed.n c.in-Failed.is
     c.in_ok-n.ensures.told)
+
+pub returns-in-Finished-clause-users : goal.returns-in-Finished-clause-users
+returns-in-Finished-clause-users g c = λ told. subst (λ d. UsersStay (g.D.Disk.state d)
+    (g.D.Disk.state (disk_of c.finished_one.new.site))) c.next.ensures.disk
+    (c.finished_one.ensures.users told)

@@ -1,6 +1,5 @@
-use Rattle.std.proofs.Common.{◌≡◌, ◌∙◌, ℕ, Bool, true, false, List, drop, sym, ap, subst, arith}
+use Rattle.std.proofs.Common.{◌∙◌, sym, arith}
 use Rattle.gs_broker.specs.Listed.{entries_in}
-use Rattle.gs_run.specs.Unserved.{is_taken}
 use Rattle.gs_run.proofs.Listing.{tells}
 use Rattle.gs_run.proofs.Taking.{taken_here, taken_later, taken_none}
 use Rattle.gs_run.proofs.calls.is_taken.Goals as goal

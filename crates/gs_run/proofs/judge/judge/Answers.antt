@@ -1,4 +1,4 @@
-use Rattle.std.proofs.Common.{ℕ, List, Option, Some, subst}
+use Rattle.std.proofs.Common.{Option, subst}
 use Rattle.gs_run.specs.Judging.{IsTextOf, IsFileOf}
 use Rattle.gs_run.specs.declared.texts.Text.{Text}
 use Rattle.gs_run.proofs.Planning.{plan_told}

@@ -1,4 +1,4 @@
-use Rattle.std.proofs.Common.{ℕ, List, Option, Ok, Err, subst}
+use Rattle.std.proofs.Common.{Ok, Err, subst}
 use Rattle.gs_idl.specs.Interface.{Interface}
 use Rattle.gs_run.specs.Judging.{ListOf}
 use Rattle.gs_run.proofs.Planning.{both_as, wrong_plan, bad_plan, plan_so}

@@ -6,6 +6,7 @@ use Rattle.gs_run.specs.Course.{Stood}
 use Rattle.gs_run.specs.Halted.{CarriedBy, IsOfRun}
 use Rattle.gs_run.specs.Ready.{store_in}
 use Rattle.gs_run.specs.declared.ready.Ready.{Ready}
+use Rattle.gs_run.proofs.Users.{finish_not}
 use Rattle.gs_run.proofs.running.carry_out.Goals as goal
 
 pub returns-in-Ended-clause-stood : goal.returns-in-Ended-clause-stood
@@ -30,3 +31,7 @@ returns-in-Going-clause-stood g c = λ told o past stands run of law before.
     (subst (λ (r : Ready). StandsFor o (store_in r).entries
     (g.D.Disk.state (disk_of c.args.site.now))) c.in-Going.is stands) run
     (subst (λ (r : Ready). IsOfRun o r) c.in-Going.is of) law before)
+
+pub returns-in-Ended-clause-users : goal.returns-in-Ended-clause-users
+returns-in-Ended-clause-users g c = λ told is.
+    absurd (finish_not c.finish_store.result c.finish_store.ensures.halts is)

@@ -12,6 +12,7 @@ use Rattle.gs_run.proofs.Courses.{call_for, stood_ran}
 use Rattle.gs_run.proofs.Entering.{enters}
 use Rattle.gs_run.proofs.Found.{from, for_from, goes_for, run_from}
 use Rattle.gs_run.proofs.Stops.{failing, fault_blames, fault_halts, header_fits, unbegun}
+use Rattle.gs_run.proofs.Users.{fault_users}
 use Rattle.gs_run.proofs.running.run_by.Goals as goal
 
 pub run-requires-clause-fits : goal.run-requires-clause-fits
@@ -88,3 +89,9 @@ returns-clause-ran g c = λ told o past stands run texts law before costs.
     (goes_for o c.args.store.entries (g.D.Disk.state (disk_of c.args.site.now)) stands)
     (enters_fit c.args.texts.now c.in-Ok.main c.in-Ok-new.broker c.args.words.now.settings.window
     call en) ran.1)
+
+pub returns-clause-users : goal.returns-clause-users
+returns-clause-users g c = λ told. fault_users c.args.words.now.settings.fuel
+    (g.D.Disk.state (disk_of c.args.site.now)) (g.D.Disk.state (disk_of c.run.new.site))
+    c.in-Err-run.fault c.stop_of_fault.result c.stop_of_fault.ensures
+    (c.in-Err-run.ensures.users told)

@@ -1,10 +1,8 @@
-use Rattle.std.proofs.Common.{◌≡◌, sym, ap, subst, refl, Err, Ok}
-use Rattle.gs_types.specs.History.{History}
+use Rattle.std.proofs.Common.{ap, refl, Err, Ok}
 use Rattle.gs_site.specs.Site.{disk_of, link_of}
-use Rattle.gs_disk.specs.Folder.{DiskState}
-use Rattle.gs_life.specs.Origin.{Origin}
-use Rattle.gs_run.specs.Ready.{stop_unready, store_in}
+use Rattle.gs_run.specs.Ready.{stop_unready}
 use Rattle.gs_run.proofs.Conclusions.{carries, ran_as, ran_unready, ran_stopped, ran_put, stays_closed, text_closed}
+use Rattle.gs_run.proofs.Users.{users_carried}
 use Rattle.gs_run.proofs.running.run_texts.Goals as goal
 
 pub returns-in-Err-clause-ran : goal.returns-in-Err-clause-ran
@@ -51,7 +49,9 @@ returns-in-Err-carry_out-clause-ran g c =
     c.in-Err-carry_out.ensures.stood)
     (stays_closed g.D.Disk.tells old mid new c.args.words.now.idl c.args.words.now.program
     c.args.words.now.workers c.in-Ok.ready c.in-Ok.ensures.ready c.in-Ok.ensures.same
-    c.in-Ok.ensures.images (λ at. ap g.D.Disk.state (c.in-Err-carry_out.ensures.still at))))
+    c.in-Ok.ensures.images (λ at. ap g.D.Disk.state (c.in-Err-carry_out.ensures.still at)))
+    (users_carried g.D.Disk.tells old mid new c.in-Err-carry_out.stop c.in-Ok.ensures.images
+    c.in-Err-carry_out.ensures.users))
 
 pub returns-in-Ok-carry_out-clause-ran : goal.returns-in-Ok-carry_out-clause-ran
 returns-in-Ok-carry_out-clause-ran g c =

@@ -1,0 +1,11 @@
+pub mod Interface
+pub mod Workers
+pub mod Faultless
+pub mod Files
+pub mod Running
+pub mod Calls
+pub mod Worlds
+pub mod Cutting
+pub mod Lines
+pub mod Saying
+pub mod Reading
