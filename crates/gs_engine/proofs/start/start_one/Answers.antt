@@ -79,5 +79,3 @@ returns-clause-users g c = λ told.
     (stay_same (g.D.Disk.state (disk_of c.args.site.now)) (g.D.Disk.state c.inputs.new.disk)
     (subst (λ d. Passes Same (g.D.Disk.state d) (g.D.Disk.state c.inputs.new.disk))
     c.disk.ensures.value (c.inputs.ensures.images told)))
-
-
