@@ -113,6 +113,7 @@ while [ $seed -lt 200 ]; do
     awk -v k=$k '{ print $k }' F > want; same column
     { echo "$(($(wc -l < F))) $(($(wc -c < F)))"; sha256sum < F | cut -c1-64; } > want; same out
     rm -f copy cat append put head tail front others starts sorted merge uniq once reverse number column
+    "$gsin" clean || { echo "FAILED clean after file $seed"; failed=1; }
 done
 [ $failed -eq 0 ] && echo "200 files alike"
 
@@ -121,6 +122,7 @@ least() {
     best=
     for turn in 1 2 3; do
         rm -f sorted
+        "$gsin" clean || failed=1
         before=$(date +%s%N)
         "$@" || failed=1
         taken=$((($(date +%s%N) - before) / 1000000))
